@@ -1,0 +1,11 @@
+use std::alloc::AllocError;
+
+/// Memory was wanted and not given.
+#[derive(Clone, Copy, Debug, PartialEq, Eq)]
+pub struct NoMemory;
+
+impl From<AllocError> for NoMemory {
+    fn from(_: AllocError) -> Self {
+        NoMemory
+    }
+}
