@@ -1,0 +1,11 @@
+pub mod Views
+pub mod Causes
+pub mod Calls
+pub mod Streams
+pub mod Numbers
+pub mod Plans
+pub mod BoundedTexts
+pub mod CreatedPairs
+pub mod MemoryFiles
+pub mod MemoryShelves
+pub mod MemoryStreams

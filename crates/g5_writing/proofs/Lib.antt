@@ -1,0 +1,5 @@
+pub mod Faults
+pub mod Adding
+pub mod Putting
+pub mod Progress
+pub mod LineSteps
