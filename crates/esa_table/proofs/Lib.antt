@@ -1,0 +1,3 @@
+pub mod Known
+pub mod Round
+pub mod Found

@@ -1,0 +1,4 @@
+pub mod Turn
+pub mod Over
+pub mod Codes
+pub mod TwoBlocks
