@@ -1,0 +1,58 @@
+//! Sums and differences.
+
+ghost use Rattle.std.specs.Prelude.{◌≡◌, ◌+ℤ◌, ◌-ℤ◌, ℤ, unsigned_abs};
+ghost use Rattle.std.specs.Int.{is_negative};
+ghost use Rattle.esa_model.specs.Packed.{whole};
+ghost use Rattle.decimal_digits.specs.Meaning.{IsWide};
+
+use crate::values::{Digits, Wide};
+
+/// The least number of 32 digits.
+const LIMIT: u128 = 10_000_000_000_000_000_000_000_000_000_000;
+
+fn low_digits(negative: bool, exact: u128) -> Wide
+    ensures { IsWide result negative exact }
+{
+    let magnitude = exact % LIMIT;
+    Wide {
+        digits: Digits {
+            negative,
+            magnitude,
+        },
+        lost: exact >= LIMIT,
+    }
+}
+
+/// The sum of two values as whole numbers, whose zero is positive.
+pub fn add(a: &Digits, b: &Digits) -> Wide
+    ensures { let z = whole a.now.negative a.now.magnitude +ℤ whole b.now.negative b.now.magnitude in
+        IsWide result (is_negative z) (unsigned_abs z) }
+{
+    if a.negative == b.negative {
+        let sum = a.magnitude + b.magnitude;
+        low_digits(a.negative && sum > 0, sum)
+    } else if a.magnitude > b.magnitude {
+        low_digits(a.negative, a.magnitude - b.magnitude)
+    } else if a.magnitude < b.magnitude {
+        low_digits(b.negative, b.magnitude - a.magnitude)
+    } else {
+        low_digits(false, 0)
+    }
+}
+
+fn opposite(d: &Digits) -> Digits
+    ensures { (x : ℤ) → (x +ℤ whole result.negative result.magnitude) ≡ (x -ℤ whole d.now.negative d.now.magnitude) }
+{
+    Digits {
+        negative: !d.negative,
+        magnitude: d.magnitude,
+    }
+}
+
+/// The difference of two values as whole numbers, whose zero is positive.
+pub fn subtract(a: &Digits, b: &Digits) -> Wide
+    ensures { let z = whole a.now.negative a.now.magnitude -ℤ whole b.now.negative b.now.magnitude in
+        IsWide result (is_negative z) (unsigned_abs z) }
+{
+    add(a, &opposite(b))
+}
