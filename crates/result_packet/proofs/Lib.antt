@@ -1,0 +1,4 @@
+pub mod Put
+pub mod Ones
+pub mod Log
+pub mod Tail
