@@ -1,0 +1,10 @@
+pub mod Cards
+pub mod Carried
+pub mod Constants
+pub mod Earlier
+pub mod Farthest
+pub mod Inside
+pub mod Items
+pub mod KeyLists
+pub mod Text
+pub mod Whole
