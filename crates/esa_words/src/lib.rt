@@ -1,0 +1,12 @@
+//! Words of 32 bits and the texts of numbers.
+#![tactic(auto)]
+
+mod decimals;
+mod hexadecimals;
+#[cfg(test)]
+mod tests;
+mod words;
+
+pub use decimals::{decimal, is_decimal, read_decimal};
+pub use hexadecimals::{hex2, hex6, hex8};
+pub use words::{bits, signed32, wrap32};

@@ -1,0 +1,12 @@
+pub mod Syndrome
+pub mod Distance
+pub mod Counting
+pub mod Values
+pub mod Segments
+pub mod Encoding
+pub mod Deciding
+pub mod Flipped
+pub mod Room
+pub mod Judging
+pub mod Restored
+pub mod Unique
