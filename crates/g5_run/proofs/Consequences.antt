@@ -1,0 +1,145 @@
+-- What follows from how the program ends.
+use Rattle.std.proofs.Common.{◌≡◌, ◌⊎◌, ℕ, zero, suc, ◌+◌, ◌≤◌, ◌<◌, ◌&&◌, Bool, true, false, List, [], length, refl, sym, ◌∙◌, ap, subst, arith, Option, Some, None, Ok, Err, IsTrue, inl, inr}
+use Rattle.g5_outside.specs.Views.{ShelfView, SinkView}
+use Rattle.g5_outside.specs.Calls.{file_named}
+use Rattle.esa_model.specs.Image.{Image, image}
+use Rattle.esa_model.specs.Machine.{Machine as Model, next, start}
+use Rattle.esa_model.specs.Built.{is_built}
+use Rattle.esa_model.specs.Texts.{after_turns, are_built}
+use Rattle.g5_run.specs.Words.{Names, input_name}
+use Rattle.g5_run.specs.Inputs.{InputBytes, AreRead, IsIn, IsUpTo, schedule_limit}
+use Rattle.g5_run.specs.Asked.{asked}
+use Rattle.g5_run.specs.DeckRefusals.{storage_size}
+use Rattle.g5_run.specs.Readiness.{IsRun, HasUnbuiltInput}
+use Rattle.g5_run.specs.Ends.{Ends, JobEnds, EndsBefore, Untouched}
+use Rattle.g5_run.specs.Complete.{ComesBeforeOutput, IsAccepted, NothingFailed}
+use Rattle.g5_run.specs.declared.inputs.Input.{Input}
+use Rattle.g5_run.specs.declared.inputs.Input.TheVariants.{Deck, Console, Schedule, Script}
+use Rattle.g5_run.specs.declared.status.Status.{Status}
+use Rattle.g5_run.specs.declared.status.Status.TheVariants.{Done, Usage, NoFile, ReadFault, WriteFault, DeckRefused, TooLarge, NoMemory, NotYet}
+
+pub job_untouched : (names : Names) (a b : ShelfView) (o p e f : SinkView) (status : Status) → JobEnds names a b o p e f status → ComesBeforeOutput status → Untouched a b o p
+job_untouched names a b o p e f Done h k = absurd k
+job_untouched names a b o p e f Usage h k = absurd h
+job_untouched names a b o p e f (NoFile input) h k = h.0.untouched
+job_untouched names a b o p e f ReadFault h k = h.0.untouched
+job_untouched names a b o p e f WriteFault h k = absurd k
+job_untouched names a b o p e f (DeckRefused refusal) h k = h.0.untouched
+job_untouched names a b o p e f (TooLarge input) h k = h.0.untouched
+job_untouched names a b o p e f NoMemory h k = h.0.untouched
+job_untouched names a b o p e f NotYet h k = absurd k
+
+-- before an output is begun nothing is touched
+pub ends_untouched : (job : Option Names) (a b : ShelfView) (o p e f : SinkView) (status : Status) → Ends job a b o p e f status → ComesBeforeOutput status → Untouched a b o p
+ends_untouched None a b o p e f status h k = h.1.untouched
+ends_untouched (Some names) a b o p e f status h k = job_untouched names a b o p e f status h k
+
+-- ---- told inputs are one
+
+pub up_to_some : (name : List ℕ) (limit : ℕ) (s : ShelfView) (x : Option (List ℕ)) → IsTrue s.told → IsUpTo name limit s x → file_named name s.files ≡ None → ⊥
+up_to_some name limit s (Some bytes) t h none = let e = h.is t in let both : Some bytes ≡ None = sym e ∙ none in absurd cc
+up_to_some name limit s None t h none = let m = h t in let both : Some m.0 ≡ None = sym m.1 ∙ none in absurd cc
+
+pub is_not_missing : (names : Names) (s : ShelfView) (inputs : InputBytes) (input : Input) → IsTrue s.told → AreRead names s inputs → file_named (input_name names input) s.files ≡ None → ⊥
+is_not_missing names s inputs Deck t r none = up_to_some names.deck 16000000 s (Some inputs.deck) t r.deck_is none
+is_not_missing names s inputs Console t r none = up_to_some names.console 0 s inputs.console t r.console_is none
+is_not_missing names s inputs Schedule t r none = up_to_some names.schedule schedule_limit s inputs.schedule t r.schedule_is none
+is_not_missing names s inputs Script t r none = up_to_some names.script 0 s inputs.script t r.script_is none
+
+pub one_text : (name : List ℕ) (s : ShelfView) (x y : List ℕ) → file_named name s.files ≡ Some x → file_named name s.files ≡ Some y → x ≡ y
+one_text name s x y e f = let both : Some x ≡ Some y = sym e ∙ f in cc
+
+pub up_to_same : (name : List ℕ) (limit : ℕ) (s : ShelfView) (x y : Option (List ℕ)) → IsTrue s.told → IsUpTo name limit s x → IsUpTo name limit s y → x ≡ y
+up_to_same name limit s (Some x) (Some y) t h k = ap Some (one_text name s x y (h.is t) (k.is t))
+up_to_same name limit s (Some x) None t h k =
+    let m = k t in
+    let e : length x ≡ length m.0 = ap length (one_text name s x m.0 (h.is t) m.1) in
+    let bound : length x ≤ limit = h.bound in
+    let above : limit < length m.0 = m.2 in
+    absurd (omega arith)
+up_to_same name limit s None (Some y) t h k =
+    let m = h t in
+    let e : length y ≡ length m.0 = ap length (one_text name s y m.0 (k.is t) m.1) in
+    let bound : length y ≤ limit = k.bound in
+    let above : limit < length m.0 = m.2 in
+    absurd (omega arith)
+up_to_same name limit s None None t h k = refl
+
+abbrev pub input_bytes : List ℕ → Option (List ℕ) → Option (List ℕ) → Option (List ℕ) → InputBytes
+input_bytes deck console schedule script = record { deck = deck; console = console; schedule = schedule; script = script }
+
+pub same_inputs : (names : Names) (s : ShelfView) (x y : InputBytes) → IsTrue s.told → AreRead names s x → AreRead names s y → x ≡ y
+same_inputs names s x y t h k =
+    let deck : x.deck ≡ y.deck = one_text names.deck s x.deck y.deck (h.deck_is.is t) (k.deck_is.is t) in
+    let console : x.console ≡ y.console = up_to_same names.console 0 s x.console y.console t h.console_is k.console_is in
+    let schedule : x.schedule ≡ y.schedule = up_to_same names.schedule schedule_limit s x.schedule y.schedule t h.schedule_is k.schedule_is in
+    let script : x.script ≡ y.script = up_to_same names.script 0 s x.script y.script t h.script_is k.script_is in
+    ap (λ d. input_bytes d x.console x.schedule x.script) deck
+    ∙ ap (λ c. input_bytes y.deck c x.schedule x.script) console
+    ∙ ap (λ c. input_bytes y.deck y.console c x.script) schedule
+    ∙ ap (λ c. input_bytes y.deck y.console y.schedule c) script
+
+-- ---- all turns that are built are made
+
+pub built_head : (n : ℕ) (m : Model) (b : Bool) → is_built m 0 ≡ b → are_built (suc n) m ≡ true → (is_built m 0 ≡ true) × (are_built n (next m 0) ≡ true)
+built_head n m true e h = (e, rw e at h)
+built_head n m false e h = let no : false ≡ true = rw e at h in absurd cc
+
+pub built_at : (n k : ℕ) (m : Model) → are_built n m ≡ true → k < n → is_built (after_turns k m) 0 ≡ true
+built_at zero k m h lt = absurd (omega arith)
+built_at (suc n) zero m h lt = (built_head n m (is_built m 0) refl h).0
+built_at (suc n) (suc k) m h lt = built_at n k (next m 0) (built_head n m (is_built m 0) refl h).1 (omega arith)
+
+-- two runs of one told shelf are one
+pub same_turns : (names : Names) (s : ShelfView) (n k : ℕ) (x y : Model) → IsTrue s.told → IsRun names s n x → IsRun names s k y → n ≡ k
+same_turns names s n k x y t h g =
+    let inputs = same_inputs names s h.inputs g.inputs t h.read g.read in
+    let both : Some n ≡ Some k = sym h.asks ∙ ap asked inputs ∙ g.asks in
+    cc
+
+pub same_start : (names : Names) (s : ShelfView) (n k : ℕ) (x y : Model) → IsTrue s.told → IsRun names s n x → IsRun names s k y → x ≡ y
+same_start names s n k x y t h g =
+    let inputs = same_inputs names s h.inputs g.inputs t h.read g.read in
+    let both : Ok h.deck ≡ Ok g.deck = sym h.deck_is ∙ ap (λ i. image storage_size i.deck) inputs ∙ g.deck_is in
+    let deck : h.deck ≡ g.deck = cc in
+    h.starts ∙ ap (λ d. start 1 d.bytes d.entry []) deck ∙ sym g.starts
+
+pub not_before : (names : Names) (turns : ℕ) (a b : ShelfView) (o p : SinkView) → IsAccepted names a turns → EndsBefore names a b o p → ⊥
+not_before names turns a b o p ok h =
+    let n : turns ≡ h.turns = same_turns names a turns h.turns ok.m h.m ok.told ok.run h.run in
+    let m : ok.m ≡ h.m = same_start names a turns h.turns ok.m h.m ok.told ok.run h.run in
+    let built : is_built (after_turns h.made ok.m) 0 ≡ true = built_at turns h.made ok.m ok.built (omega (arith, h.fewer)) in
+    let clash : true ≡ false = sym built ∙ ap (λ k. is_built (after_turns h.made k) 0) m ∙ h.unbuilt in
+    absurd cc
+
+pub not_unbuilt : (names : Names) (turns : ℕ) (a b : ShelfView) → IsAccepted names a turns → HasUnbuiltInput names a b → ⊥
+not_unbuilt names turns a b ok h =
+    let inputs = same_inputs names a ok.run.inputs h.inputs ok.told ok.run.read h.read in
+    let clash : Some turns ≡ None = sym ok.run.asks ∙ ap asked inputs ∙ h.asks in
+    absurd cc
+
+-- an accepted run at which nothing fails is made to its end, where there is memory
+pub job_complete : (names : Names) (turns : ℕ) (a b : ShelfView) (o p e f : SinkView) (status : Status) → JobEnds names a b o p e f status → IsAccepted names a turns → NothingFailed a b o p → (status ≡ Done) ⊎ (status ≡ NoMemory)
+job_complete names turns a b o p e f Done h ok nf = inl refl
+job_complete names turns a b o p e f Usage h ok nf = absurd h
+job_complete names turns a b o p e f (NoFile input) h ok nf = absurd (is_not_missing names a ok.run.inputs input ok.told ok.run.read (h.0.because.missing ok.told))
+job_complete names turns a b o p e f ReadFault h ok nf = absurd (nf.reads h.0.because)
+job_complete names turns a b o p e f WriteFault h ok nf = absurd (elim h.0.cause [ inl shelf ↦ nf.writes shelf | inr sink ↦ nf.out sink ])
+job_complete names turns a b o p e f (DeckRefused r) h ok nf =
+    let inputs = same_inputs names a ok.run.inputs h.0.because.inputs ok.told ok.run.read h.0.because.read in
+    let clash : Ok ok.run.deck ≡ Err r = sym ok.run.deck_is ∙ ap (λ i. image storage_size i.deck) inputs ∙ h.0.because.refusal_is.refused in
+    absurd cc
+job_complete names turns a b o p e f (TooLarge Deck) h ok nf =
+    let m = h.0.because ok.told in
+    let same : length ok.run.inputs.deck ≡ length m.0 = ap length (one_text names.deck a ok.run.inputs.deck m.0 (ok.run.read.deck_is.is ok.told) m.1) in
+    let bound : length ok.run.inputs.deck ≤ 16000000 = ok.run.read.deck_is.bound in
+    let above : 16000000 < length m.0 = m.2 in
+    absurd (omega arith)
+job_complete names turns a b o p e f (TooLarge Console) h ok nf = absurd h.0.because
+job_complete names turns a b o p e f (TooLarge Schedule) h ok nf = absurd h.0.because
+job_complete names turns a b o p e f (TooLarge Script) h ok nf = absurd h.0.because
+job_complete names turns a b o p e f NoMemory h ok nf = inr refl
+job_complete names turns a b o p e f NotYet h ok nf = absurd (elim h.0 [ inl before ↦ not_unbuilt names turns a b ok before.because | inr at_turn ↦ not_before names turns a b o p ok at_turn ])
+
+pub ends_complete : (job : Option Names) (names : Names) (turns : ℕ) (a b : ShelfView) (o p e f : SinkView) (status : Status) → Ends job a b o p e f status → job ≡ Some names → IsAccepted names a turns → NothingFailed a b o p → (status ≡ Done) ⊎ (status ≡ NoMemory)
+ends_complete job names turns a b o p e f status h is ok nf = job_complete names turns a b o p e f status (subst (λ j. Ends j a b o p e f status) is h) ok nf

@@ -1,0 +1,45 @@
+-- What the two files hold, by their names.
+use Rattle.std.proofs.Common.{◌≡◌, ◌≢◌, ℕ, Bool, true, false, List, [], ◌∷◌, ◌++◌, refl, sym, ◌∙◌, ap, IsTrue}
+use Rattle.std.specs.Str.{bytes_eq}
+use Rattle.std.proofs.lemmas.Slice.Eq.{bytes_eq-Decides}
+use Rattle.g5_outside.specs.Views.{ShelfView, SinkView}
+use Rattle.g5_writing.specs.Outputs.{Grew}
+use Rattle.g5_writing.specs.Starts.{text_named}
+use Rattle.g5_writing.specs.declared.outputs.OutputFiles.{OutputFiles}
+use Rattle.esa_model.specs.declared.outputs.Place.TheVariants.{Log, Trace, Out}
+use Rattle.esa_model.specs.Pieces.{Piece, text}
+use Rattle.g5_run.specs.Words.{Names}
+use Rattle.g5_run.specs.Ends.{Holds}
+
+pub not_true : (b : Bool) → (b ≡ true → ⊥) → b ≡ false
+not_true true h = absurd (h refl)
+not_true false h = refl
+
+pub same_bytes : (xs : List ℕ) → bytes_eq xs xs ≡ true
+same_bytes xs = (bytes_eq-Decides xs xs).1 refl
+
+pub other_bytes : (xs ys : List ℕ) → xs ≢ ys → bytes_eq xs ys ≡ false
+other_bytes xs ys ne = not_true (bytes_eq xs ys) (λ e. ne ((bytes_eq-Decides xs ys).0 e))
+
+-- of two files, the newer is found by its name, and so is the older
+pub named_newer : (s : ShelfView) (newer older : ℕ) (name : List ℕ) → s.numbers ≡ newer ∷ older ∷ [] → s.name_of newer ≡ name → text_named s name ≡ s.text_of newer
+named_newer s newer older name numbers is = rw (numbers, is, same_bytes name) refl
+
+pub named_older : (s : ShelfView) (newer older : ℕ) (name other : List ℕ) → s.numbers ≡ newer ∷ older ∷ [] → s.name_of newer ≡ other → s.name_of older ≡ name → name ≢ other → text_named s name ≡ s.text_of older
+named_older s newer older name other numbers not is ne = rw (numbers, not, is, other_bytes other name (λ e. ne (sym e)), same_bytes name) refl
+
+-- what was written to two empty files
+pub holds_of : (names : Names) (files : OutputFiles) (pieces : List Piece) (s t : ShelfView) (o p : SinkView) → s.numbers ≡ files.trace.0 ∷ files.log.0 ∷ [] → (IsTrue s.told → s.name_of files.log.0 ≡ names.log) → (IsTrue s.told → s.name_of files.trace.0 ≡ names.trace) → names.log ≢ names.trace → (IsTrue s.told → text_named s names.log ≡ []) → (IsTrue s.told → text_named s names.trace ≡ []) → Grew files pieces s t o p → Holds names pieces t o p
+holds_of names files pieces s t o p numbers log_name trace_name differ log_empty trace_empty g = record {
+  log = λ told_now.
+      let told : IsTrue s.told = sym g.told ∙ told_now in
+      named_older t files.trace.0 files.log.0 names.log names.trace (g.numbers ∙ numbers) (g.names told files.trace.0 ∙ trace_name told) (g.names told files.log.0 ∙ log_name told) differ
+      ∙ g.log told
+      ∙ ap (λ z. z ++ text Log pieces) (sym (named_older s files.trace.0 files.log.0 names.log names.trace numbers (trace_name told) (log_name told) differ) ∙ log_empty told);
+  trace = λ told_now.
+      let told : IsTrue s.told = sym g.told ∙ told_now in
+      named_newer t files.trace.0 files.log.0 names.trace (g.numbers ∙ numbers) (g.names told files.trace.0 ∙ trace_name told)
+      ∙ g.trace told
+      ∙ ap (λ z. z ++ text Trace pieces) (sym (named_newer s files.trace.0 files.log.0 names.trace numbers (trace_name told)) ∙ trace_empty told);
+  out = g.out;
+}

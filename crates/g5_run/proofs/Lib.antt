@@ -1,0 +1,10 @@
+pub mod WordForms
+pub mod Saying
+pub mod InputReads
+pub mod TurnSteps
+pub mod CommitPieces
+pub mod RunPieces
+pub mod Loads
+pub mod Preparing
+pub mod Holding
+pub mod Consequences

@@ -1,0 +1,97 @@
+-- How a run of the program ends, and what it leaves.
+use Rattle.std.specs.Prelude.{◌≡◌, ◌⊎◌, ℕ, ◌<◌, List, [], ◌∷◌, ◌++◌, Option, Some, None, IsTrue, true, false, codes}
+use Rattle.g5_outside.specs.Views.{ShelfView, SinkView}
+use Rattle.g5_outside.specs.Causes.{Rose}
+use Rattle.g5_writing.specs.Starts.{text_named}
+use Rattle.esa_model.specs.declared.outputs.Place.TheVariants.{Log, Trace, Out}
+use Rattle.esa_model.specs.Pieces.{Piece, text, IsCut}
+use Rattle.esa_model.specs.Machine.{Machine as Model}
+use Rattle.esa_model.specs.Built.{is_built}
+use Rattle.esa_model.specs.Texts.{whole, pieces_before, after_turns, are_built, report}
+use Rattle.g5_run.specs.Words.{Names}
+use Rattle.g5_run.specs.RunTexts.{run_pieces, all_committed}
+use Rattle.g5_run.specs.Readiness.{IsRun, IsNotReady}
+use Rattle.g5_run.specs.Lines.{line_of}
+use Rattle.g5_run.specs.Says.{Says}
+use Rattle.g5_run.specs.declared.status.Status.{Status}
+use Rattle.g5_run.specs.declared.status.Status.TheVariants.{Done, Usage, NoFile, ReadFault, WriteFault, DeckRefused, TooLarge, NoMemory, NotYet}
+
+-- log, trace and console have these pieces; a file that could not be created has none
+pub record Holds (names : Names) (pieces : List Piece) (shelf : ShelfView) (out_old out_new : SinkView) : Type 0 where
+  pub log : IsTrue shelf.told → text_named shelf names.log ≡ text Log pieces
+  pub trace : IsTrue shelf.told → text_named shelf names.trace ≡ text Trace pieces
+  pub out : IsTrue out_old.told → out_new.taken ≡ out_old.taken ++ text Out pieces
+
+-- no file was created, and nothing written
+pub record Untouched (old new : ShelfView) (out_old out_new : SinkView) : Type 0 where
+  pub numbers : new.numbers ≡ old.numbers
+  pub out : out_new ≡ out_old
+
+-- all turns of the schedule were made, and the outputs are whole
+pub record EndsWhole (names : Names) (turns : ℕ) (old new : ShelfView) (out_old out_new : SinkView) : Type 0 where
+  pub m : Model
+  pub run : IsRun names old turns m
+  pub built : are_built turns m ≡ true
+  pub holds : Holds names (whole turns m) new out_old out_new
+  pub found : new.found ≡ true
+
+-- the turns before the first that is not built were made, and the outputs have their pieces
+pub record EndsBefore (names : Names) (old new : ShelfView) (out_old out_new : SinkView) : Type 0 where
+  pub m : Model
+  pub turns : ℕ
+  pub run : IsRun names old turns m
+  pub made : ℕ
+  pub fewer : made < turns
+  pub built : are_built made m ≡ true
+  pub unbuilt : is_built (after_turns made m) 0 ≡ false
+  pub holds : Holds names (pieces_before made m) new out_old out_new
+  pub found : new.found ≡ true
+
+-- the pieces before a failed write are whole, that one is there in part or not at all, and those behind it are missing
+pub record EndsCut (names : Names) (old new : ShelfView) (out_old out_new : SinkView) : Type 0 where
+  pub m : Model
+  pub turns : ℕ
+  pub run : IsRun names old turns m
+  pub held : List Piece
+  pub cut : IsCut held (run_pieces turns m)
+  pub holds : Holds names held new out_old out_new
+  pub cause : Rose old.write_faults new.write_faults ⊎ Rose out_old.faults out_new.faults
+  pub found : new.found ≡ true
+
+pub record EndsUntouched (cause : Type 0) (old new : ShelfView) (out_old out_new : SinkView) : Type 0 where
+  pub because : cause
+  pub untouched : Untouched old new out_old out_new
+
+-- each status of a job but Done by its cause, with what is held
+abbrev pub EndsEarly : Names → ShelfView → ShelfView → SinkView → SinkView → Status → Type 0
+EndsEarly names a b o p Done = ⊥
+EndsEarly names a b o p Usage = ⊥
+EndsEarly names a b o p (NoFile input) = EndsUntouched (IsNotReady names a b (NoFile input)) a b o p
+EndsEarly names a b o p ReadFault = EndsUntouched (IsNotReady names a b ReadFault) a b o p
+EndsEarly names a b o p WriteFault = EndsCut names a b o p
+EndsEarly names a b o p (DeckRefused refusal) = EndsUntouched (IsNotReady names a b (DeckRefused refusal)) a b o p
+EndsEarly names a b o p (TooLarge input) = EndsUntouched (IsNotReady names a b (TooLarge input)) a b o p
+EndsEarly names a b o p NoMemory = EndsUntouched (IsNotReady names a b NoMemory) a b o p
+EndsEarly names a b o p NotYet = EndsUntouched (IsNotReady names a b NotYet) a b o p ⊎ EndsBefore names a b o p
+
+-- Done has the report on `err`, and each other status its line
+abbrev pub JobEnds : Names → ShelfView → ShelfView → SinkView → SinkView → SinkView → SinkView → Status → Type 0
+JobEnds names a b o p e f Done = (turns : ℕ) × EndsWhole names turns a b o p × Says (report (all_committed turns)) e f
+JobEnds names a b o p e f Usage = ⊥
+JobEnds names a b o p e f (NoFile input) = EndsEarly names a b o p (NoFile input) × Says (line_of names (NoFile input)) e f
+JobEnds names a b o p e f ReadFault = EndsEarly names a b o p ReadFault × Says (line_of names ReadFault) e f
+JobEnds names a b o p e f WriteFault = EndsEarly names a b o p WriteFault × Says (line_of names WriteFault) e f
+JobEnds names a b o p e f (DeckRefused refusal) = EndsEarly names a b o p (DeckRefused refusal) × Says (line_of names (DeckRefused refusal)) e f
+JobEnds names a b o p e f (TooLarge input) = EndsEarly names a b o p (TooLarge input) × Says (line_of names (TooLarge input)) e f
+JobEnds names a b o p e f NoMemory = EndsEarly names a b o p NoMemory × Says (line_of names NoMemory) e f
+JobEnds names a b o p e f NotYet = EndsEarly names a b o p NotYet × Says (line_of names NotYet) e f
+
+-- words that are of no job's form touch nothing
+pub record UsageEnds (old new : ShelfView) (out_old out_new err_old err_new : SinkView) : Type 0 where
+  pub untouched : Untouched old new out_old out_new
+  pub said : Says (codes "usage" ++ 10 ∷ []) err_old err_new
+
+-- how the program ends, by its words
+abbrev pub Ends : Option Names → ShelfView → ShelfView → SinkView → SinkView → SinkView → SinkView → Status → Type 0
+Ends None a b o p e f status = (status ≡ Usage) × UsageEnds a b o p e f
+Ends (Some names) a b o p e f status = JobEnds names a b o p e f status

@@ -1,0 +1,16 @@
+pub mod Words
+pub mod ScheduleForm
+pub mod Inputs
+pub mod Asked
+pub mod RefusalTexts
+pub mod Lines
+pub mod Says
+pub mod RunTexts
+pub mod Making
+pub mod DeckRefusals
+pub mod Loading
+pub mod Readiness
+pub mod Ends
+pub mod Endings
+pub mod StatusNumbers
+pub mod Complete
