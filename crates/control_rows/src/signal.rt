@@ -1,0 +1,60 @@
+// SIGNAL PROCESSOR.
+ghost use Rattle.std.specs.Prelude.{◌≡◌, ◌<◌, true};
+ghost use Rattle.esa_model.specs.Rows.Controls.{signal_line, with_status as status_put};
+ghost use Rattle.esa_model.specs.SigpAnswers.{answer_of};
+ghost use Rattle.row_frame.specs.Made.{inputs, IsInRange, IsPlain};
+
+use abs_storage::View;
+use esa_model::machine::{CpuNo, Registers};
+use esa_model::signalling::SigpAnswer;
+use result_packet::Side;
+use row_frame::{Effect, Instruction, after, general_of, leave, psw_coded, second_of};
+use sigp_bus::Bus;
+
+/// The answer to an order: an order that is accepted is one to a CPU that is there.
+#[tactic(auto, unfolding(esa_model::specs::SigpAnswers::answer_of, esa_model::specs::SigpAnswers::answer_in))]
+fn answered(bus: &Bus, to: u16, order: u8) -> SigpAnswer
+    ensures answer { result ≡ answer_of bus.now to order }
+    ensures code { result.cc < 4 }
+    ensures there { result.accepted ≡ true → to < 256 }
+{
+    let _cpus = bus.cpus();
+    bus.answer(to, order)
+}
+
+/// The registers with the condition code, and with a status in R1 where that is 1.
+fn with_status(r: &Registers, r1: u8, a: &SigpAnswer) -> Registers
+    requires target { r1 < 16 }
+    requires code { a.now.cc < 4 }
+    ensures { result ≡ status_put r.now r1 a.now }
+{
+    let mut out = *r;
+    if a.cc == 1 {
+        out.general[r1 as usize] = a.status;
+    }
+    out.psw = psw_coded(r.psw, a.cc);
+    out
+}
+
+/// An order to a CPU, which takes effect when the sender commits.
+pub fn signal_effect<V: View>(
+    r: &Registers,
+    cpu: CpuNo,
+    view: &V,
+    side: &Side,
+    i: &Instruction,
+) -> Effect
+    requires fields { IsInRange i.now.decoded }
+    ensures effect { result ≡ signal_line.effect (inputs r.now cpu.0 (V.bytes view.now) side.now i.now) }
+    ensures plain { IsPlain result }
+{
+    let d = &i.decoded;
+    let order = (second_of(r, d) % 256) as u8;
+    let to = (general_of(r, d.r2) % 0x1_0000) as u16;
+    let a = answered(&side.bus, to, order);
+    let is_sent = a.accepted && 1 < order;
+    let mut e = leave(with_status(&after(r, i.len), d.r1, &a));
+    e.order = if is_sent { order } else { 0 };
+    e.order_to = if is_sent { to as u8 } else { 0xFF };
+    e
+}

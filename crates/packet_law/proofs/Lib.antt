@@ -1,0 +1,9 @@
+pub mod Reading
+pub mod Back
+pub mod Spell
+pub mod Parts
+pub mod Around
+pub mod Widths
+pub mod Events
+pub mod Performed
+pub mod Whole

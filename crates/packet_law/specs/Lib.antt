@@ -1,0 +1,4 @@
+pub mod Fine
+pub mod Sound
+pub mod Widths
+pub mod Rows

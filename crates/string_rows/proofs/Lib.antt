@@ -1,0 +1,4 @@
+pub mod Codes
+pub mod Used
+pub mod Moved
+pub mod Units
