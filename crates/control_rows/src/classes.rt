@@ -7,7 +7,7 @@ ghost use Rattle.row_frame.specs.Made.{IsInRange};
 
 use esa_model::instructions::Decoded;
 use esa_model::machine::Registers;
-use row_frame::second_of;
+use row_frame::{is_listed, second_of};
 
 /// SSM LPSW SPX LCTL
 const FETCHING: [u16; 4] = [0x80, 0x82, 0xB210, 0xB7];
@@ -21,44 +21,32 @@ const MASKS: [u16; 2] = [0xAC, 0xAD];
 /// ISKE RRBE SSKE
 const KEYS: [u16; 3] = [0xB229, 0xB22A, 0xB22B];
 
-/// Whether a list has an opcode.
-fn has(opcodes: &[u16], opcode: u16) -> bool
-    ensures { result ≡ lists opcode opcodes.now }
-{
-    for o in opcodes {
-        if *o == opcode {
-            return true;
-        }
-    }
-    false
-}
-
 /// Whether a row fetches its operand.
 pub fn is_fetching(opcode: u16) -> bool
     ensures { result ≡ lists opcode fetching }
 {
-    has(&FETCHING, opcode)
+    is_listed(&FETCHING, opcode)
 }
 
 /// Whether a row stores at its second address.
 pub fn is_storing(opcode: u16) -> bool
     ensures { result ≡ lists opcode storing }
 {
-    has(&STORING, opcode)
+    is_listed(&STORING, opcode)
 }
 
 /// Whether a row stores the system mask.
 pub fn is_mask(opcode: u16) -> bool
     ensures { result ≡ lists opcode masks }
 {
-    has(&MASKS, opcode)
+    is_listed(&MASKS, opcode)
 }
 
 /// Whether a row is for the key of a block.
 pub fn is_key(opcode: u16) -> bool
     ensures { result ≡ lists opcode keys }
 {
-    has(&KEYS, opcode)
+    is_listed(&KEYS, opcode)
 }
 
 /// How many control registers are named.

@@ -3,7 +3,7 @@ ghost use Rattle.std.specs.Prelude.{◌≡◌, ◌≤◌, ◌<◌, true, false, 
 ghost use Rattle.esa_model.specs.ControlRows.{controlled, is_control, stored_len};
 ghost use Rattle.esa_model.specs.Line.{lists};
 ghost use Rattle.esa_model.specs.Rows.Controls.{control_effect, fetching, fetching_line, masks, masks_line, set_in, storing, storing_line};
-ghost use Rattle.row_frame.specs.Made.{inputs, Covers, Fits, IsInRange};
+ghost use Rattle.row_frame.specs.Made.{inputs, Covers, Fits, IsInRange, IsQuiet};
 
 use crate::classes::{fetched, stored};
 use abs_storage::View;
@@ -29,6 +29,7 @@ pub fn effect_by(block: u16, c: &Controlled) -> Effect
     ensures effect { result ≡ control_effect block c.now }
     ensures bytes { result.stored ≡ c.now.stored }
     ensures console { result.console_out ≡ [] }
+    ensures quiet { IsQuiet result }
     ensures kind { result.kind < 3 }
 {
     let mut e = leave(c.registers);
@@ -104,6 +105,7 @@ pub fn fetching_effect<V: View>(
     ensures effect { result ≡ (fetching_line opcode).effect (inputs r.now cpu.0 (V.bytes view.old) side.now i.now) }
     ensures bytes { result.stored ≡ [] }
     ensures console { result.console_out ≡ [] }
+    ensures quiet { IsQuiet result }
     ensures kind { result.kind < 3 }
     ensures same { V.bytes view.new ≡ V.bytes view.old }
 {
@@ -146,6 +148,7 @@ pub fn storing_effect<V: View>(
     requires known { lists opcode storing ≡ true }
     ensures effect { result ≡ (storing_line opcode).effect (inputs r.now cpu.0 (V.bytes view.old) side.now i.now) }
     ensures covers { Covers ((storing_line opcode).operands (inputs r.now cpu.0 (V.bytes view.old) side.now i.now)) result }
+    ensures quiet { IsQuiet result }
     ensures same { V.bytes view.new ≡ V.bytes view.old }
 {
     let c = made(opcode, cpu, view.size(), 0, &after(r, i.len), &i.decoded);
@@ -167,6 +170,7 @@ pub fn mask_effect<V: View>(
     ensures effect { result ≡ (masks_line opcode).effect (inputs r.now cpu.0 (V.bytes view.old) side.now i.now) }
     ensures bytes { length result.stored ≤ 1 }
     ensures console { result.console_out ≡ [] }
+    ensures quiet { IsQuiet result }
     ensures kind { result.kind < 3 }
     ensures same { V.bytes view.new ≡ V.bytes view.old }
 {

@@ -3,6 +3,7 @@ ghost use Rattle.std.specs.Prelude.{◌≡◌, ◌≤◌, ◌<◌, [], Bool, Som
 ghost use Rattle.esa_model.specs.ControlRows.{console_called};
 ghost use Rattle.esa_model.specs.Line.{advanced, general, leaves, second_at};
 ghost use Rattle.esa_model.specs.Rows.Controls.{text_at};
+ghost use Rattle.packet_law.specs.Sound.{ReadsConsole};
 ghost use Rattle.row_frame.specs.Made.{IsInRange};
 
 use arrayvec::ArrayVec;
@@ -70,6 +71,8 @@ pub fn read(r: &Registers, d: &Decoded, len: u8, count: u32, console: &Console) 
     ensures effect { result ≡ record (leaves (record (advanced r.now len) { general = slice_set r.now.general d.now.r2 count })) { stored = take count console.now; console_in = Some count } }
     ensures short { length result.stored ≤ count }
     ensures none { result.console_out ≡ [] }
+    ensures reads { ReadsConsole result.console_in (length console.now) result.console_out }
+    ensures order { result.order ≡ 0 }
     ensures kind { result.kind < 3 }
 {
     let mut e = leave(with_count(r, d, len, count));

@@ -1,77 +1,16 @@
 // The PSW after an event, which an interruption fetches after all that the event stores.
-ghost use Rattle.std.specs.Prelude.{◌≡◌, ◌<◌, ◌≤◌, ◌==◌, ◌||◌, ◌++◌, ℕ, List, [], if◌then◌else◌, length, get_or};
-ghost use Rattle.std.specs.Int.{w32, to_be_bytes};
+ghost use Rattle.std.specs.Prelude.{◌≡◌, ◌<◌, ◌≤◌, ℕ, List, length, get_or};
 ghost use Rattle.esa_model.specs.Access.{byte};
 ghost use Rattle.esa_model.specs.Line.{word_at};
 ghost use Rattle.esa_model.specs.Machine.{psw_after};
-ghost use Rattle.esa_model.specs.Places.{identification_at as identification_place, new_at as new_place, old_at as old_place};
 ghost use Rattle.control_rows.specs.Events.{left_by, stored_thrice};
 
 use abs_storage::View;
-use arrayvec::ArrayVec;
 use byteorder::{BigEndian, ByteOrder};
 use esa_model::machine::{Psw, Registers};
 use operand_access::{overlaid, place_of};
-
-/// Where an interruption of a kind stores the old PSW.
-fn old_at(kind: u8) -> u32
-    ensures { result ≡ old_place kind }
-{
-    match kind {
-        1 => 40,
-        2 => 32,
-        3 => 24,
-        _ => 8,
-    }
-}
-
-/// Where the new PSW of a kind is.
-fn new_at(kind: u8) -> u32
-    ensures place { result ≡ new_place kind }
-    ensures small { result < 256 }
-{
-    match kind {
-        1 => 104,
-        2 => 96,
-        3 => 88,
-        _ => 0,
-    }
-}
-
-/// Where the identification of a kind is stored.
-fn identification_at(kind: u8) -> u32
-    ensures { result ≡ identification_place kind }
-{
-    match kind {
-        1 => 140,
-        2 => 136,
-        3 => 132,
-        _ => 0,
-    }
-}
-
-/// The bytes of the old PSW, none where nothing interrupts.
-fn old_bytes(kind: u8, psw: Psw) -> ArrayVec<u8, 8>
-    ensures { result.items ≡ (if kind == 0 then [] else to_be_bytes w32 psw.w0 ++ to_be_bytes w32 psw.w1) }
-{
-    let mut list = ArrayVec::new();
-    if kind != 0 {
-        let _ = list.try_extend_from_slice(&psw.w0.to_be_bytes());
-        let _ = list.try_extend_from_slice(&psw.w1.to_be_bytes());
-    }
-    list
-}
-
-/// The bytes of the identification, none where the kind has none.
-fn identification_bytes(kind: u8, identification: u32) -> ArrayVec<u8, 4>
-    ensures { result.items ≡ (if kind == 0 || kind == 4 then [] else to_be_bytes w32 identification) }
-{
-    let mut list = ArrayVec::new();
-    if kind != 0 && kind != 4 {
-        let _ = list.try_extend_from_slice(&identification.to_be_bytes());
-    }
-    list
-}
+use psw_interrupts::swap_of;
+use result_packet::{identification_bytes, old_psw_bytes};
 
 /// What an absolute address holds after three stores, one after the other, from what it held before.
 fn overlaid_thrice(
@@ -174,13 +113,14 @@ pub fn psw_left<V: View>(
     if kind == 0 {
         return psw;
     }
-    let old = old_bytes(kind, psw);
+    let places = swap_of(kind);
+    let old = old_psw_bytes(kind, psw);
     let own = identification_bytes(kind, identification);
     let ys = old.as_slice();
     let zs = own.as_slice();
-    let second = old_at(kind);
-    let third = identification_at(kind);
-    let at = new_at(kind);
+    let second = places.old_at as u32;
+    let third = places.identification as u32;
+    let at = places.new_at as u32;
     let w0 = word_left(r, view, to, stored, second, ys, third, zs, at);
     let w1 = word_left(r, view, to, stored, second, ys, third, zs, at + 4);
     Psw { w0, w1 }

@@ -2,7 +2,7 @@
 ghost use Rattle.std.specs.Prelude.{◌≡◌, true};
 ghost use Rattle.esa_model.specs.Line.{leaves, lists};
 ghost use Rattle.esa_model.specs.Rows.Controls.{keys, keys_line};
-ghost use Rattle.row_frame.specs.Made.{inputs, IsInRange, IsPlain};
+ghost use Rattle.row_frame.specs.Made.{inputs, IsInRange, IsPlain, IsQuiet};
 
 use crate::control::{effect_by, made};
 use abs_storage::View;
@@ -15,6 +15,7 @@ use row_frame::{Effect, Instruction, after, general_of, leave};
 fn refuse(r: &Registers, code: u8) -> Effect
     ensures effect { result ≡ record (leaves r.now) { fault = code } }
     ensures plain { IsPlain result }
+    ensures quiet { IsQuiet result }
 {
     let mut e = leave(*r);
     e.fault = code;
@@ -35,6 +36,7 @@ pub fn key_effect<V: View>(
     requires known { lists opcode keys ≡ true }
     ensures effect { result ≡ (keys_line opcode).effect (inputs r.now cpu.0 (V.bytes view.old) side.now i.now) }
     ensures plain { IsPlain result }
+    ensures quiet { IsQuiet result }
     ensures same { V.bytes view.new ≡ V.bytes view.old }
 {
     let d = &i.decoded;

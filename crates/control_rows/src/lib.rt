@@ -12,3 +12,6 @@ mod signal;
 
 pub use events::psw_left;
 pub use rows::{effect_of, in_order, operands};
+
+#[cfg(test)]
+mod tests;

@@ -1,7 +1,9 @@
 // The tests of control rows, their operands and what they do.
-ghost use Rattle.std.specs.Prelude.{◌≡◌, ◌≤◌, Some};
+ghost use Rattle.std.specs.Prelude.{◌≡◌, ◌≤◌, Some, length};
 ghost use Rattle.esa_model.specs.Line.{general};
 ghost use Rattle.esa_model.specs.Rows.Controls.{controls_line, diagnose_effect, diagnose_operands};
+ghost use Rattle.control_rows.specs.Orders.{Sends};
+ghost use Rattle.packet_law.specs.Sound.{ReadsConsole};
 ghost use Rattle.row_frame.specs.Made.{inputs, Covers, Fits, IsInRange};
 
 use crate::classes::{is_aligned, is_fetching, is_key, is_mask, is_storing};
@@ -105,6 +107,8 @@ fn diagnose<V: View>(
     requires count { general r.now i.now.decoded.r2 ≤ 256 }
     ensures effect { result ≡ diagnose_effect (inputs r.now cpu.0 (V.bytes view.old) side.now i.now) (Some reads) }
     ensures covers { Covers (diagnose_operands (inputs r.now cpu.0 (V.bytes view.old) side.now i.now) (Some reads)) result }
+    ensures reads { ReadsConsole result.console_in (length side.now.console) result.console_out }
+    ensures order { result.order ≡ 0 }
     ensures same { V.bytes view.new ≡ V.bytes view.old }
 {
     let d = &i.decoded;
@@ -117,7 +121,7 @@ fn diagnose<V: View>(
 }
 
 /// What a row does.
-#[tactic(auto, unfolding(esa_model::specs::Rows::Controls::controls_line))]
+#[tactic(auto, using(crate::proofs::Quiet::reads_nothing, crate::proofs::Quiet::sends_nothing), unfolding(esa_model::specs::Rows::Controls::controls_line))]
 pub fn effect_of<V: View>(
     opcode: u16,
     r: &Registers,
@@ -129,6 +133,8 @@ pub fn effect_of<V: View>(
     requires fields { IsInRange i.now.decoded }
     ensures effect { result ≡ (controls_line opcode).effect (inputs r.now cpu.0 (V.bytes view.old) side.now i.now) }
     ensures covers { Covers ((controls_line opcode).operands (inputs r.now cpu.0 (V.bytes view.old) side.now i.now)) result }
+    ensures reads { ReadsConsole result.console_in (length side.now.console) result.console_out }
+    ensures sends { Sends side.now.bus result.order result.order_to }
     ensures same { V.bytes view.new ≡ V.bytes view.old }
 {
     if is_fetching(opcode) {

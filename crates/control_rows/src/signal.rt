@@ -1,7 +1,8 @@
 // SIGNAL PROCESSOR.
-ghost use Rattle.std.specs.Prelude.{◌≡◌, ◌<◌, true};
+ghost use Rattle.std.specs.Prelude.{◌≡◌, ◌<◌, true, None};
 ghost use Rattle.esa_model.specs.Rows.Controls.{signal_line, with_status as status_put};
 ghost use Rattle.esa_model.specs.SigpAnswers.{answer_of};
+ghost use Rattle.control_rows.specs.Orders.{Sends};
 ghost use Rattle.row_frame.specs.Made.{inputs, IsInRange, IsPlain};
 
 use abs_storage::View;
@@ -47,6 +48,8 @@ pub fn signal_effect<V: View>(
     requires fields { IsInRange i.now.decoded }
     ensures effect { result ≡ signal_line.effect (inputs r.now cpu.0 (V.bytes view.now) side.now i.now) }
     ensures plain { IsPlain result }
+    ensures console { result.console_in ≡ None }
+    ensures sends { Sends side.now.bus result.order result.order_to }
 {
     let d = &i.decoded;
     let order = (second_of(r, d) % 256) as u8;

@@ -35,7 +35,6 @@ pub mod Texts
 pub mod Places
 pub mod Pieces
 pub mod SigpAnswers
-pub mod Built
 pub mod Trace
 pub mod MaskRows
 pub mod Relative

@@ -134,6 +134,10 @@ is_idle d = false
 unfoldable pub idle : Machine → ℕ → Bool
 idle m i = is_idle (due_at m i)
 
+abbrev pub is_unit : Due → Bool
+is_unit UnitOfOperation = true
+is_unit d = false
+
 -- the machine after what an event of CPU i does
 unfoldable pub after : Machine → ℕ → Done → Machine
 after m i d = record {

@@ -2,781 +2,150 @@
 
 use esa_model::instructions::{Form, Row};
 
+/// Rows, one a line: opcode, form, name, and whether the instruction is privileged.
+macro_rules! rows {
+    ($($opcode:literal $form:ident $name:literal $privileged:literal;)*) => {
+        [$(
+            Row {
+                opcode: $opcode,
+                form: Form::$form,
+                name: *$name,
+                privileged: $privileged,
+            },
+        )*]
+    };
+}
+
 /// All rows of the general, decimal and control instructions, ascending by the number of the opcode.
 /// Source: Principles of Operation, lists of instructions in the appendix.
-pub(crate) static ROWS: [Row; 129] = [
-    Row {
-        opcode: 0x04,
-        form: Form::Rr,
-        name: *b"SPM   ",
-        privileged: false,
-    },
-    Row {
-        opcode: 0x05,
-        form: Form::Rr,
-        name: *b"BALR  ",
-        privileged: false,
-    },
-    Row {
-        opcode: 0x06,
-        form: Form::Rr,
-        name: *b"BCTR  ",
-        privileged: false,
-    },
-    Row {
-        opcode: 0x07,
-        form: Form::Rr,
-        name: *b"BCR   ",
-        privileged: false,
-    },
-    Row {
-        opcode: 0x0A,
-        form: Form::Rr,
-        name: *b"SVC   ",
-        privileged: false,
-    },
-    Row {
-        opcode: 0x0B,
-        form: Form::Rr,
-        name: *b"BSM   ",
-        privileged: false,
-    },
-    Row {
-        opcode: 0x0C,
-        form: Form::Rr,
-        name: *b"BASSM ",
-        privileged: false,
-    },
-    Row {
-        opcode: 0x0D,
-        form: Form::Rr,
-        name: *b"BASR  ",
-        privileged: false,
-    },
-    Row {
-        opcode: 0x0E,
-        form: Form::Rr,
-        name: *b"MVCL  ",
-        privileged: false,
-    },
-    Row {
-        opcode: 0x0F,
-        form: Form::Rr,
-        name: *b"CLCL  ",
-        privileged: false,
-    },
-    Row {
-        opcode: 0x10,
-        form: Form::Rr,
-        name: *b"LPR   ",
-        privileged: false,
-    },
-    Row {
-        opcode: 0x11,
-        form: Form::Rr,
-        name: *b"LNR   ",
-        privileged: false,
-    },
-    Row {
-        opcode: 0x12,
-        form: Form::Rr,
-        name: *b"LTR   ",
-        privileged: false,
-    },
-    Row {
-        opcode: 0x13,
-        form: Form::Rr,
-        name: *b"LCR   ",
-        privileged: false,
-    },
-    Row {
-        opcode: 0x14,
-        form: Form::Rr,
-        name: *b"NR    ",
-        privileged: false,
-    },
-    Row {
-        opcode: 0x15,
-        form: Form::Rr,
-        name: *b"CLR   ",
-        privileged: false,
-    },
-    Row {
-        opcode: 0x16,
-        form: Form::Rr,
-        name: *b"OR    ",
-        privileged: false,
-    },
-    Row {
-        opcode: 0x17,
-        form: Form::Rr,
-        name: *b"XR    ",
-        privileged: false,
-    },
-    Row {
-        opcode: 0x18,
-        form: Form::Rr,
-        name: *b"LR    ",
-        privileged: false,
-    },
-    Row {
-        opcode: 0x19,
-        form: Form::Rr,
-        name: *b"CR    ",
-        privileged: false,
-    },
-    Row {
-        opcode: 0x1A,
-        form: Form::Rr,
-        name: *b"AR    ",
-        privileged: false,
-    },
-    Row {
-        opcode: 0x1B,
-        form: Form::Rr,
-        name: *b"SR    ",
-        privileged: false,
-    },
-    Row {
-        opcode: 0x1C,
-        form: Form::Rr,
-        name: *b"MR    ",
-        privileged: false,
-    },
-    Row {
-        opcode: 0x1D,
-        form: Form::Rr,
-        name: *b"DR    ",
-        privileged: false,
-    },
-    Row {
-        opcode: 0x1E,
-        form: Form::Rr,
-        name: *b"ALR   ",
-        privileged: false,
-    },
-    Row {
-        opcode: 0x1F,
-        form: Form::Rr,
-        name: *b"SLR   ",
-        privileged: false,
-    },
-    Row {
-        opcode: 0x40,
-        form: Form::Rx,
-        name: *b"STH   ",
-        privileged: false,
-    },
-    Row {
-        opcode: 0x41,
-        form: Form::Rx,
-        name: *b"LA    ",
-        privileged: false,
-    },
-    Row {
-        opcode: 0x42,
-        form: Form::Rx,
-        name: *b"STC   ",
-        privileged: false,
-    },
-    Row {
-        opcode: 0x43,
-        form: Form::Rx,
-        name: *b"IC    ",
-        privileged: false,
-    },
-    Row {
-        opcode: 0x44,
-        form: Form::Rx,
-        name: *b"EX    ",
-        privileged: false,
-    },
-    Row {
-        opcode: 0x45,
-        form: Form::Rx,
-        name: *b"BAL   ",
-        privileged: false,
-    },
-    Row {
-        opcode: 0x46,
-        form: Form::Rx,
-        name: *b"BCT   ",
-        privileged: false,
-    },
-    Row {
-        opcode: 0x47,
-        form: Form::Rx,
-        name: *b"BC    ",
-        privileged: false,
-    },
-    Row {
-        opcode: 0x48,
-        form: Form::Rx,
-        name: *b"LH    ",
-        privileged: false,
-    },
-    Row {
-        opcode: 0x49,
-        form: Form::Rx,
-        name: *b"CH    ",
-        privileged: false,
-    },
-    Row {
-        opcode: 0x4A,
-        form: Form::Rx,
-        name: *b"AH    ",
-        privileged: false,
-    },
-    Row {
-        opcode: 0x4B,
-        form: Form::Rx,
-        name: *b"SH    ",
-        privileged: false,
-    },
-    Row {
-        opcode: 0x4C,
-        form: Form::Rx,
-        name: *b"MH    ",
-        privileged: false,
-    },
-    Row {
-        opcode: 0x4D,
-        form: Form::Rx,
-        name: *b"BAS   ",
-        privileged: false,
-    },
-    Row {
-        opcode: 0x4E,
-        form: Form::Rx,
-        name: *b"CVD   ",
-        privileged: false,
-    },
-    Row {
-        opcode: 0x4F,
-        form: Form::Rx,
-        name: *b"CVB   ",
-        privileged: false,
-    },
-    Row {
-        opcode: 0x50,
-        form: Form::Rx,
-        name: *b"ST    ",
-        privileged: false,
-    },
-    Row {
-        opcode: 0x54,
-        form: Form::Rx,
-        name: *b"N     ",
-        privileged: false,
-    },
-    Row {
-        opcode: 0x55,
-        form: Form::Rx,
-        name: *b"CL    ",
-        privileged: false,
-    },
-    Row {
-        opcode: 0x56,
-        form: Form::Rx,
-        name: *b"O     ",
-        privileged: false,
-    },
-    Row {
-        opcode: 0x57,
-        form: Form::Rx,
-        name: *b"X     ",
-        privileged: false,
-    },
-    Row {
-        opcode: 0x58,
-        form: Form::Rx,
-        name: *b"L     ",
-        privileged: false,
-    },
-    Row {
-        opcode: 0x59,
-        form: Form::Rx,
-        name: *b"C     ",
-        privileged: false,
-    },
-    Row {
-        opcode: 0x5A,
-        form: Form::Rx,
-        name: *b"A     ",
-        privileged: false,
-    },
-    Row {
-        opcode: 0x5B,
-        form: Form::Rx,
-        name: *b"S     ",
-        privileged: false,
-    },
-    Row {
-        opcode: 0x5C,
-        form: Form::Rx,
-        name: *b"M     ",
-        privileged: false,
-    },
-    Row {
-        opcode: 0x5D,
-        form: Form::Rx,
-        name: *b"D     ",
-        privileged: false,
-    },
-    Row {
-        opcode: 0x5E,
-        form: Form::Rx,
-        name: *b"AL    ",
-        privileged: false,
-    },
-    Row {
-        opcode: 0x5F,
-        form: Form::Rx,
-        name: *b"SL    ",
-        privileged: false,
-    },
-    Row {
-        opcode: 0x71,
-        form: Form::Rx,
-        name: *b"MS    ",
-        privileged: false,
-    },
-    Row {
-        opcode: 0x80,
-        form: Form::S,
-        name: *b"SSM   ",
-        privileged: true,
-    },
-    Row {
-        opcode: 0x82,
-        form: Form::S,
-        name: *b"LPSW  ",
-        privileged: true,
-    },
-    Row {
-        opcode: 0x83,
-        form: Form::Rs,
-        name: *b"DIAG  ",
-        privileged: true,
-    },
-    Row {
-        opcode: 0x84,
-        form: Form::Rsi,
-        name: *b"BRXH  ",
-        privileged: false,
-    },
-    Row {
-        opcode: 0x85,
-        form: Form::Rsi,
-        name: *b"BRXLE ",
-        privileged: false,
-    },
-    Row {
-        opcode: 0x86,
-        form: Form::Rs,
-        name: *b"BXH   ",
-        privileged: false,
-    },
-    Row {
-        opcode: 0x87,
-        form: Form::Rs,
-        name: *b"BXLE  ",
-        privileged: false,
-    },
-    Row {
-        opcode: 0x88,
-        form: Form::Rs,
-        name: *b"SRL   ",
-        privileged: false,
-    },
-    Row {
-        opcode: 0x89,
-        form: Form::Rs,
-        name: *b"SLL   ",
-        privileged: false,
-    },
-    Row {
-        opcode: 0x8A,
-        form: Form::Rs,
-        name: *b"SRA   ",
-        privileged: false,
-    },
-    Row {
-        opcode: 0x8B,
-        form: Form::Rs,
-        name: *b"SLA   ",
-        privileged: false,
-    },
-    Row {
-        opcode: 0x8C,
-        form: Form::Rs,
-        name: *b"SRDL  ",
-        privileged: false,
-    },
-    Row {
-        opcode: 0x8D,
-        form: Form::Rs,
-        name: *b"SLDL  ",
-        privileged: false,
-    },
-    Row {
-        opcode: 0x8E,
-        form: Form::Rs,
-        name: *b"SRDA  ",
-        privileged: false,
-    },
-    Row {
-        opcode: 0x8F,
-        form: Form::Rs,
-        name: *b"SLDA  ",
-        privileged: false,
-    },
-    Row {
-        opcode: 0x90,
-        form: Form::Rs,
-        name: *b"STM   ",
-        privileged: false,
-    },
-    Row {
-        opcode: 0x91,
-        form: Form::Si,
-        name: *b"TM    ",
-        privileged: false,
-    },
-    Row {
-        opcode: 0x92,
-        form: Form::Si,
-        name: *b"MVI   ",
-        privileged: false,
-    },
-    Row {
-        opcode: 0x93,
-        form: Form::S,
-        name: *b"TS    ",
-        privileged: false,
-    },
-    Row {
-        opcode: 0x94,
-        form: Form::Si,
-        name: *b"NI    ",
-        privileged: false,
-    },
-    Row {
-        opcode: 0x95,
-        form: Form::Si,
-        name: *b"CLI   ",
-        privileged: false,
-    },
-    Row {
-        opcode: 0x96,
-        form: Form::Si,
-        name: *b"OI    ",
-        privileged: false,
-    },
-    Row {
-        opcode: 0x97,
-        form: Form::Si,
-        name: *b"XI    ",
-        privileged: false,
-    },
-    Row {
-        opcode: 0x98,
-        form: Form::Rs,
-        name: *b"LM    ",
-        privileged: false,
-    },
-    Row {
-        opcode: 0xAC,
-        form: Form::Si,
-        name: *b"STNSM ",
-        privileged: true,
-    },
-    Row {
-        opcode: 0xAD,
-        form: Form::Si,
-        name: *b"STOSM ",
-        privileged: true,
-    },
-    Row {
-        opcode: 0xAE,
-        form: Form::Rs,
-        name: *b"SIGP  ",
-        privileged: true,
-    },
-    Row {
-        opcode: 0xB6,
-        form: Form::Rs,
-        name: *b"STCTL ",
-        privileged: true,
-    },
-    Row {
-        opcode: 0xB7,
-        form: Form::Rs,
-        name: *b"LCTL  ",
-        privileged: true,
-    },
-    Row {
-        opcode: 0xBA,
-        form: Form::Rs,
-        name: *b"CS    ",
-        privileged: false,
-    },
-    Row {
-        opcode: 0xBB,
-        form: Form::Rs,
-        name: *b"CDS   ",
-        privileged: false,
-    },
-    Row {
-        opcode: 0xBD,
-        form: Form::Rs,
-        name: *b"CLM   ",
-        privileged: false,
-    },
-    Row {
-        opcode: 0xBE,
-        form: Form::Rs,
-        name: *b"STCM  ",
-        privileged: false,
-    },
-    Row {
-        opcode: 0xBF,
-        form: Form::Rs,
-        name: *b"ICM   ",
-        privileged: false,
-    },
-    Row {
-        opcode: 0xD1,
-        form: Form::Ss1,
-        name: *b"MVN   ",
-        privileged: false,
-    },
-    Row {
-        opcode: 0xD2,
-        form: Form::Ss1,
-        name: *b"MVC   ",
-        privileged: false,
-    },
-    Row {
-        opcode: 0xD3,
-        form: Form::Ss1,
-        name: *b"MVZ   ",
-        privileged: false,
-    },
-    Row {
-        opcode: 0xD4,
-        form: Form::Ss1,
-        name: *b"NC    ",
-        privileged: false,
-    },
-    Row {
-        opcode: 0xD5,
-        form: Form::Ss1,
-        name: *b"CLC   ",
-        privileged: false,
-    },
-    Row {
-        opcode: 0xD6,
-        form: Form::Ss1,
-        name: *b"OC    ",
-        privileged: false,
-    },
-    Row {
-        opcode: 0xD7,
-        form: Form::Ss1,
-        name: *b"XC    ",
-        privileged: false,
-    },
-    Row {
-        opcode: 0xDC,
-        form: Form::Ss1,
-        name: *b"TR    ",
-        privileged: false,
-    },
-    Row {
-        opcode: 0xDD,
-        form: Form::Ss1,
-        name: *b"TRT   ",
-        privileged: false,
-    },
-    Row {
-        opcode: 0xDE,
-        form: Form::Ss1,
-        name: *b"ED    ",
-        privileged: false,
-    },
-    Row {
-        opcode: 0xDF,
-        form: Form::Ss1,
-        name: *b"EDMK  ",
-        privileged: false,
-    },
-    Row {
-        opcode: 0xE8,
-        form: Form::Ss1,
-        name: *b"MVCIN ",
-        privileged: false,
-    },
-    Row {
-        opcode: 0xF0,
-        form: Form::Ss2,
-        name: *b"SRP   ",
-        privileged: false,
-    },
-    Row {
-        opcode: 0xF1,
-        form: Form::Ss2,
-        name: *b"MVO   ",
-        privileged: false,
-    },
-    Row {
-        opcode: 0xF2,
-        form: Form::Ss2,
-        name: *b"PACK  ",
-        privileged: false,
-    },
-    Row {
-        opcode: 0xF3,
-        form: Form::Ss2,
-        name: *b"UNPK  ",
-        privileged: false,
-    },
-    Row {
-        opcode: 0xF8,
-        form: Form::Ss2,
-        name: *b"ZAP   ",
-        privileged: false,
-    },
-    Row {
-        opcode: 0xF9,
-        form: Form::Ss2,
-        name: *b"CP    ",
-        privileged: false,
-    },
-    Row {
-        opcode: 0xFA,
-        form: Form::Ss2,
-        name: *b"AP    ",
-        privileged: false,
-    },
-    Row {
-        opcode: 0xFB,
-        form: Form::Ss2,
-        name: *b"SP    ",
-        privileged: false,
-    },
-    Row {
-        opcode: 0xFC,
-        form: Form::Ss2,
-        name: *b"MP    ",
-        privileged: false,
-    },
-    Row {
-        opcode: 0xFD,
-        form: Form::Ss2,
-        name: *b"DP    ",
-        privileged: false,
-    },
-    Row {
-        opcode: 0xA70,
-        form: Form::Ri,
-        name: *b"TMH   ",
-        privileged: false,
-    },
-    Row {
-        opcode: 0xA71,
-        form: Form::Ri,
-        name: *b"TML   ",
-        privileged: false,
-    },
-    Row {
-        opcode: 0xA74,
-        form: Form::Ri,
-        name: *b"BRC   ",
-        privileged: false,
-    },
-    Row {
-        opcode: 0xA75,
-        form: Form::Ri,
-        name: *b"BRAS  ",
-        privileged: false,
-    },
-    Row {
-        opcode: 0xA76,
-        form: Form::Ri,
-        name: *b"BRCT  ",
-        privileged: false,
-    },
-    Row {
-        opcode: 0xA78,
-        form: Form::Ri,
-        name: *b"LHI   ",
-        privileged: false,
-    },
-    Row {
-        opcode: 0xA7A,
-        form: Form::Ri,
-        name: *b"AHI   ",
-        privileged: false,
-    },
-    Row {
-        opcode: 0xA7C,
-        form: Form::Ri,
-        name: *b"MHI   ",
-        privileged: false,
-    },
-    Row {
-        opcode: 0xA7E,
-        form: Form::Ri,
-        name: *b"CHI   ",
-        privileged: false,
-    },
-    Row {
-        opcode: 0xB210,
-        form: Form::S,
-        name: *b"SPX   ",
-        privileged: true,
-    },
-    Row {
-        opcode: 0xB211,
-        form: Form::S,
-        name: *b"STPX  ",
-        privileged: true,
-    },
-    Row {
-        opcode: 0xB212,
-        form: Form::S,
-        name: *b"STAP  ",
-        privileged: true,
-    },
-    Row {
-        opcode: 0xB222,
-        form: Form::Rre,
-        name: *b"IPM   ",
-        privileged: false,
-    },
-    Row {
-        opcode: 0xB229,
-        form: Form::Rre,
-        name: *b"ISKE  ",
-        privileged: true,
-    },
-    Row {
-        opcode: 0xB22A,
-        form: Form::Rre,
-        name: *b"RRBE  ",
-        privileged: true,
-    },
-    Row {
-        opcode: 0xB22B,
-        form: Form::Rre,
-        name: *b"SSKE  ",
-        privileged: true,
-    },
-    Row {
-        opcode: 0xB252,
-        form: Form::Rre,
-        name: *b"MSR   ",
-        privileged: false,
-    },
-];
+pub(crate) static ROWS: [Row; 129] = rows! {
+    0x04 Rr b"SPM   " false;
+    0x05 Rr b"BALR  " false;
+    0x06 Rr b"BCTR  " false;
+    0x07 Rr b"BCR   " false;
+    0x0A Rr b"SVC   " false;
+    0x0B Rr b"BSM   " false;
+    0x0C Rr b"BASSM " false;
+    0x0D Rr b"BASR  " false;
+    0x0E Rr b"MVCL  " false;
+    0x0F Rr b"CLCL  " false;
+    0x10 Rr b"LPR   " false;
+    0x11 Rr b"LNR   " false;
+    0x12 Rr b"LTR   " false;
+    0x13 Rr b"LCR   " false;
+    0x14 Rr b"NR    " false;
+    0x15 Rr b"CLR   " false;
+    0x16 Rr b"OR    " false;
+    0x17 Rr b"XR    " false;
+    0x18 Rr b"LR    " false;
+    0x19 Rr b"CR    " false;
+    0x1A Rr b"AR    " false;
+    0x1B Rr b"SR    " false;
+    0x1C Rr b"MR    " false;
+    0x1D Rr b"DR    " false;
+    0x1E Rr b"ALR   " false;
+    0x1F Rr b"SLR   " false;
+    0x40 Rx b"STH   " false;
+    0x41 Rx b"LA    " false;
+    0x42 Rx b"STC   " false;
+    0x43 Rx b"IC    " false;
+    0x44 Rx b"EX    " false;
+    0x45 Rx b"BAL   " false;
+    0x46 Rx b"BCT   " false;
+    0x47 Rx b"BC    " false;
+    0x48 Rx b"LH    " false;
+    0x49 Rx b"CH    " false;
+    0x4A Rx b"AH    " false;
+    0x4B Rx b"SH    " false;
+    0x4C Rx b"MH    " false;
+    0x4D Rx b"BAS   " false;
+    0x4E Rx b"CVD   " false;
+    0x4F Rx b"CVB   " false;
+    0x50 Rx b"ST    " false;
+    0x54 Rx b"N     " false;
+    0x55 Rx b"CL    " false;
+    0x56 Rx b"O     " false;
+    0x57 Rx b"X     " false;
+    0x58 Rx b"L     " false;
+    0x59 Rx b"C     " false;
+    0x5A Rx b"A     " false;
+    0x5B Rx b"S     " false;
+    0x5C Rx b"M     " false;
+    0x5D Rx b"D     " false;
+    0x5E Rx b"AL    " false;
+    0x5F Rx b"SL    " false;
+    0x71 Rx b"MS    " false;
+    0x80 S b"SSM   " true;
+    0x82 S b"LPSW  " true;
+    0x83 Rs b"DIAG  " true;
+    0x84 Rsi b"BRXH  " false;
+    0x85 Rsi b"BRXLE " false;
+    0x86 Rs b"BXH   " false;
+    0x87 Rs b"BXLE  " false;
+    0x88 Rs b"SRL   " false;
+    0x89 Rs b"SLL   " false;
+    0x8A Rs b"SRA   " false;
+    0x8B Rs b"SLA   " false;
+    0x8C Rs b"SRDL  " false;
+    0x8D Rs b"SLDL  " false;
+    0x8E Rs b"SRDA  " false;
+    0x8F Rs b"SLDA  " false;
+    0x90 Rs b"STM   " false;
+    0x91 Si b"TM    " false;
+    0x92 Si b"MVI   " false;
+    0x93 S b"TS    " false;
+    0x94 Si b"NI    " false;
+    0x95 Si b"CLI   " false;
+    0x96 Si b"OI    " false;
+    0x97 Si b"XI    " false;
+    0x98 Rs b"LM    " false;
+    0xAC Si b"STNSM " true;
+    0xAD Si b"STOSM " true;
+    0xAE Rs b"SIGP  " true;
+    0xB6 Rs b"STCTL " true;
+    0xB7 Rs b"LCTL  " true;
+    0xBA Rs b"CS    " false;
+    0xBB Rs b"CDS   " false;
+    0xBD Rs b"CLM   " false;
+    0xBE Rs b"STCM  " false;
+    0xBF Rs b"ICM   " false;
+    0xD1 Ss1 b"MVN   " false;
+    0xD2 Ss1 b"MVC   " false;
+    0xD3 Ss1 b"MVZ   " false;
+    0xD4 Ss1 b"NC    " false;
+    0xD5 Ss1 b"CLC   " false;
+    0xD6 Ss1 b"OC    " false;
+    0xD7 Ss1 b"XC    " false;
+    0xDC Ss1 b"TR    " false;
+    0xDD Ss1 b"TRT   " false;
+    0xDE Ss1 b"ED    " false;
+    0xDF Ss1 b"EDMK  " false;
+    0xE8 Ss1 b"MVCIN " false;
+    0xF0 Ss2 b"SRP   " false;
+    0xF1 Ss2 b"MVO   " false;
+    0xF2 Ss2 b"PACK  " false;
+    0xF3 Ss2 b"UNPK  " false;
+    0xF8 Ss2 b"ZAP   " false;
+    0xF9 Ss2 b"CP    " false;
+    0xFA Ss2 b"AP    " false;
+    0xFB Ss2 b"SP    " false;
+    0xFC Ss2 b"MP    " false;
+    0xFD Ss2 b"DP    " false;
+    0xA70 Ri b"TMH   " false;
+    0xA71 Ri b"TML   " false;
+    0xA74 Ri b"BRC   " false;
+    0xA75 Ri b"BRAS  " false;
+    0xA76 Ri b"BRCT  " false;
+    0xA78 Ri b"LHI   " false;
+    0xA7A Ri b"AHI   " false;
+    0xA7C Ri b"MHI   " false;
+    0xA7E Ri b"CHI   " false;
+    0xB210 S b"SPX   " true;
+    0xB211 S b"STPX  " true;
+    0xB212 S b"STAP  " true;
+    0xB222 Rre b"IPM   " false;
+    0xB229 Rre b"ISKE  " true;
+    0xB22A Rre b"RRBE  " true;
+    0xB22B Rre b"SSKE  " true;
+    0xB252 Rre b"MSR   " false;
+};

@@ -1,1 +1,2 @@
-mod Step
+pub mod Standing
+pub mod TurnSteps

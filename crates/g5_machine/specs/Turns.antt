@@ -1,61 +1,63 @@
--- When a machine stands for a state of the model, and what a turn gives.
-use Rattle.std.specs.Prelude.{◌≡◌, ℕ, List, [], Bool, true, false, ◌&&◌, Option, Some, None}
-use Rattle.esa_model.specs.declared.machine.Registers.{Registers}
-use Rattle.esa_model.specs.Line.{Side}
-use Rattle.esa_model.specs.Bus.{signals_of}
-use Rattle.esa_model.specs.Event.{due}
-use Rattle.esa_model.specs.Unit.{Done}
-use Rattle.esa_model.specs.Machine.{Machine as Model, side_of, next, done}
-use Rattle.esa_model.specs.Built.{is_built, is_plain, is_unit, is_unit_built}
+-- When a machine stands for a state of the model, and what its calls give.
+-- Source: choice of this project.
+use Rattle.std.specs.Prelude.{◌≡◌, ℕ, ◌+◌, ◌<◌, [], true, false, Some, length, slice_get}
+use Rattle.esa_model.specs.Machine.{Machine as Model, side_of, idle, next}
 use Rattle.esa_model.specs.Texts.{done_at}
 use Rattle.esa_model.specs.Trace.{changed_bytes}
+use Rattle.g5_machine.specs.Built.{is_built}
+use Rattle.g5_machine.specs.Counts.{IsCounted}
 use Rattle.g5_machine.specs.declared.machine.Machine.{Machine}
 use Rattle.g5_machine.specs.declared.turns.Turn.{Turn}
 use Rattle.g5_machine.specs.declared.turns.Outcome.{Outcome}
-use Rattle.g5_machine.specs.declared.turns.Outcome.TheVariants.{Committed, NotYet}
+use Rattle.g5_machine.specs.declared.turns.Outcome.TheVariants.{Committed, Idle, NotYet}
 
--- the parts of a machine are those of a state
-pub record IsOf (registers : Registers) (storage : List ℕ) (side : Side) (model : Model) : Type 0 where
-  pub cpu : model.registers 0 ≡ registers
-  pub bytes : model.storage ≡ storage
-  pub around : side_of model ≡ side
+-- how many turns were made, and how many of them were commits
+pub record Made : Type 0 where
+  pub turns : ℕ
+  pub commits : ℕ
 
-abbrev pub StandsFor : Machine → Model → Type 0
-StandsFor m model = IsOf m.registers m.storage m.side model
+-- the parts of a machine are those of a state, after so many turns and commits
+pub record StandsFor (m : Machine) (model : Model) (made : Made) : Type 0 where
+  pub cpus : length m.registers.items ≡ length model.bus
+  pub registers : (i : ℕ) → i < length model.bus → slice_get m.registers.items i ≡ Some (model.registers i)
+  pub storage : model.storage ≡ m.storage
+  pub side : side_of model ≡ m.side
+  pub read : model.console_read ≡ m.counts.read
+  pub written : length model.console_written ≡ m.counts.written
+  pub turns : made.turns ≡ m.counts.turns
+  pub commits : made.commits ≡ m.counts.commits
+  pub counted : IsCounted m.counts
 
--- a turn whose event is built makes the next state, and tells the PSW after it, the bytes whose value it changed,
--- ascending by address, and the bytes for the console
-pub record CommitGives (model : Model) (i : ℕ) (after : Machine) (turn : Turn) : Type 0 where
-  pub built : is_built model i ≡ true
-  pub stands : StandsFor after (next model i)
-  pub psw : turn.psw ≡ ((next model i).registers i).psw
-  pub changed : turn.written.changed.items ≡ changed_bytes model.storage (next model i).storage
-  pub console : turn.written.console.items ≡ (done_at model i).console_out
-
--- one whose event is not built changes nothing
-pub record NotYetGives (model : Model) (i : ℕ) (after : Machine) (turn : Turn) : Type 0 where
-  pub built : is_built model i ≡ false
-  pub stands : StandsFor after model
+-- nothing is told at a turn without a commit
+pub record TellsNothing (turn : Turn) : Type 0 where
   pub psw : turn.psw ≡ record { w0 = 0; w1 = 0 }
   pub changed : turn.written.changed.items ≡ []
   pub console : turn.written.console.items ≡ []
 
-abbrev pub Gives : Model → ℕ → Machine → Turn → Outcome → Type 0
-Gives model i after turn Committed = CommitGives model i after turn
-Gives model i after turn NotYet = NotYetGives model i after turn
+-- a commit of CPU i makes the next state, and tells the PSW after it, the bytes whose value it changed, ascending by
+-- address, and the bytes for the console
+pub record CommitGives (model : Model) (made : Made) (i : ℕ) (after : Machine) (turn : Turn) : Type 0 where
+  pub busy : idle model i ≡ false
+  pub built : is_built model i ≡ true
+  pub stands : StandsFor after (next model i) (record { turns = made.turns + 1; commits = made.commits + 1 })
+  pub psw : turn.psw ≡ ((next model i).registers i).psw
+  pub changed : turn.written.changed.items ≡ changed_bytes model.storage (next model i).storage
+  pub console : turn.written.console.items ≡ (done_at model i).console_out
 
--- ---- the event of a turn
+-- an idle turn changes nothing
+pub record IdleGives (model : Model) (made : Made) (i : ℕ) (after : Machine) (turn : Turn) : Type 0 where
+  pub idle : idle model i ≡ true
+  pub built : is_built model i ≡ true
+  pub stands : StandsFor after model (record { turns = made.turns + 1; commits = made.commits })
+  pub nothing : TellsNothing turn
 
--- a unit of operation is due, and it is built
-unfoldable pub event_built : Registers → ℕ → List ℕ → Side → Bool
-event_built r i storage side = is_unit (due r (signals_of side.bus i)) && is_unit_built r i storage side
+-- one whose event is not built is not made
+pub record NotYetGives (model : Model) (made : Made) (i : ℕ) (after : Machine) (turn : Turn) : Type 0 where
+  pub built : is_built model i ≡ false
+  pub stands : StandsFor after model made
+  pub nothing : TellsNothing turn
 
-pub record HasEvent (r : Registers) (i : ℕ) (storage : List ℕ) (side : Side) (d : Done) : Type 0 where
-  pub is : d ≡ done r i storage side
-  pub built : event_built r i storage side ≡ true
-  pub plain : is_plain d ≡ true
-
--- what the event does, or none where it is not built
-abbrev pub TellsEvent : Registers → ℕ → List ℕ → Side → Option Done → Type 0
-TellsEvent r i storage side None = event_built r i storage side ≡ false
-TellsEvent r i storage side (Some d) = HasEvent r i storage side d
+abbrev pub Gives : Model → Made → ℕ → Machine → Turn → Outcome → Type 0
+Gives model made i after turn Committed = CommitGives model made i after turn
+Gives model made i after turn Idle = IdleGives model made i after turn
+Gives model made i after turn NotYet = NotYetGives model made i after turn

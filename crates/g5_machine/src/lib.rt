@@ -1,7 +1,13 @@
 //! The machine: its start and its turns.
 #![tactic(auto)]
 
+mod carrying;
+mod counts;
+mod interrupt_key;
 mod machine;
+mod signal_units;
+mod starting;
+mod state;
 mod turning;
 mod turns;
 

@@ -1,10 +1,12 @@
 use esa_model::machine::Psw;
 use result_packet::Written;
 
-/// What a turn came to: its event was committed, or the program has not that event yet.
+/// What a turn came to: its event was committed; the CPU was idle; or the event is one that the program has
+/// not yet, which is SIGNAL PROCESSOR.
 #[derive(Clone, Copy, Debug, PartialEq, Eq)]
 pub enum Outcome {
     Committed,
+    Idle,
     NotYet,
 }
 

@@ -96,18 +96,18 @@ fn streams_in_memory(rt: HostRuntime) -> Result<(), Fail> {
 
 #[test]
 fn files_of_the_host(rt: HostRuntime) -> Result<(), Fail> {
-    let (from, to) = ("/tmp/g5_outside_from", "/tmp/g5_outside_to");
+    let (from, to) = ("files_of_the_host_from", "files_of_the_host_to");
     fs::write(&rt, from, "ABCDEFGHIJ")?;
     let mut shelf = HostShelf::new(&rt);
     assert_eq!(rt; copy_eight(&mut shelf, from, to), Ok(Some(8)));
     let mut absent = HostShelf::new(&rt);
     assert_eq!(rt;
-        copy_eight(&mut absent, "/tmp/g5_outside_absent", to),
+        copy_eight(&mut absent, "files_of_the_host_absent", to),
         Ok(None)
     );
     let mut folder = HostShelf::new(&rt);
     assert_eq!(rt;
-        copy_eight(&mut folder, from, "/tmp/g5_outside_absent/to"),
+        copy_eight(&mut folder, from, "files_of_the_host_absent/to"),
         Err(Failed)
     );
     let mut source = HostSource::new(fs::open(&rt, to)?);

@@ -1,13 +1,15 @@
 -- What follows from how the program ends.
-use Rattle.std.proofs.Common.{◌≡◌, ◌⊎◌, ℕ, zero, suc, ◌+◌, ◌≤◌, ◌<◌, ◌&&◌, Bool, true, false, List, [], length, refl, sym, ◌∙◌, ap, subst, arith, Option, Some, None, Ok, Err, IsTrue, inl, inr}
+use Rattle.std.proofs.Common.{◌≡◌, ◌⊎◌, ℕ, zero, suc, ◌≤◌, ◌<◌, Bool, true, false, List, length, refl, sym, ◌∙◌, ap, subst, arith, Option, Some, None, Ok, Err, IsTrue, inl, inr}
 use Rattle.g5_outside.specs.Views.{ShelfView, SinkView}
 use Rattle.g5_outside.specs.Calls.{file_named}
-use Rattle.esa_model.specs.Image.{Image, image}
-use Rattle.esa_model.specs.Machine.{Machine as Model, next, start}
-use Rattle.esa_model.specs.Built.{is_built}
-use Rattle.esa_model.specs.Texts.{after_turns, are_built}
+use Rattle.g5_reading.specs.Inputs.{IsTooLarge}
+use Rattle.esa_model.specs.Image.{image}
+use Rattle.esa_model.specs.Machine.{Machine as Model, start}
+use Rattle.esa_model.specs.Texts.{turned, after_turns}
+use Rattle.g5_machine.specs.Built.{is_built}
+use Rattle.g5_run.specs.RunTexts.{are_built}
 use Rattle.g5_run.specs.Words.{Names, input_name}
-use Rattle.g5_run.specs.Inputs.{InputBytes, AreRead, IsIn, IsUpTo, schedule_limit}
+use Rattle.g5_run.specs.Inputs.{InputBytes, AreRead, IsIn, IsUpTo, deck_limit, console_limit, schedule_limit}
 use Rattle.g5_run.specs.Asked.{asked}
 use Rattle.g5_run.specs.DeckRefusals.{storage_size}
 use Rattle.g5_run.specs.Readiness.{IsRun, HasUnbuiltInput}
@@ -41,37 +43,34 @@ up_to_some name limit s (Some bytes) t h none = let e = h.is t in let both : Som
 up_to_some name limit s None t h none = let m = h t in let both : Some m.0 ≡ None = sym m.1 ∙ none in absurd cc
 
 pub is_not_missing : (names : Names) (s : ShelfView) (inputs : InputBytes) (input : Input) → IsTrue s.told → AreRead names s inputs → file_named (input_name names input) s.files ≡ None → ⊥
-is_not_missing names s inputs Deck t r none = up_to_some names.deck 16000000 s (Some inputs.deck) t r.deck_is none
-is_not_missing names s inputs Console t r none = up_to_some names.console 0 s inputs.console t r.console_is none
+is_not_missing names s inputs Deck t r none = up_to_some names.deck deck_limit s (Some inputs.deck) t r.deck_is none
+is_not_missing names s inputs Console t r none = up_to_some names.console console_limit s (Some inputs.console) t r.console_is none
 is_not_missing names s inputs Schedule t r none = up_to_some names.schedule schedule_limit s inputs.schedule t r.schedule_is none
 is_not_missing names s inputs Script t r none = up_to_some names.script 0 s inputs.script t r.script_is none
 
 pub one_text : (name : List ℕ) (s : ShelfView) (x y : List ℕ) → file_named name s.files ≡ Some x → file_named name s.files ≡ Some y → x ≡ y
 one_text name s x y e f = let both : Some x ≡ Some y = sym e ∙ f in cc
 
-pub up_to_same : (name : List ℕ) (limit : ℕ) (s : ShelfView) (x y : Option (List ℕ)) → IsTrue s.told → IsUpTo name limit s x → IsUpTo name limit s y → x ≡ y
-up_to_same name limit s (Some x) (Some y) t h k = ap Some (one_text name s x y (h.is t) (k.is t))
-up_to_same name limit s (Some x) None t h k =
-    let m = k t in
+pub within_is_not_above : (name : List ℕ) (limit : ℕ) (s : ShelfView) (x : List ℕ) → IsTrue s.told → IsIn name limit s x → IsTooLarge name limit s → ⊥
+within_is_not_above name limit s x t h m =
     let e : length x ≡ length m.0 = ap length (one_text name s x m.0 (h.is t) m.1) in
     let bound : length x ≤ limit = h.bound in
     let above : limit < length m.0 = m.2 in
     absurd (omega arith)
-up_to_same name limit s None (Some y) t h k =
-    let m = h t in
-    let e : length y ≡ length m.0 = ap length (one_text name s y m.0 (k.is t) m.1) in
-    let bound : length y ≤ limit = k.bound in
-    let above : limit < length m.0 = m.2 in
-    absurd (omega arith)
+
+pub up_to_same : (name : List ℕ) (limit : ℕ) (s : ShelfView) (x y : Option (List ℕ)) → IsTrue s.told → IsUpTo name limit s x → IsUpTo name limit s y → x ≡ y
+up_to_same name limit s (Some x) (Some y) t h k = ap Some (one_text name s x y (h.is t) (k.is t))
+up_to_same name limit s (Some x) None t h k = absurd (within_is_not_above name limit s x t h (k t))
+up_to_same name limit s None (Some y) t h k = absurd (within_is_not_above name limit s y t k (h t))
 up_to_same name limit s None None t h k = refl
 
-abbrev pub input_bytes : List ℕ → Option (List ℕ) → Option (List ℕ) → Option (List ℕ) → InputBytes
+abbrev pub input_bytes : List ℕ → List ℕ → Option (List ℕ) → Option (List ℕ) → InputBytes
 input_bytes deck console schedule script = record { deck = deck; console = console; schedule = schedule; script = script }
 
 pub same_inputs : (names : Names) (s : ShelfView) (x y : InputBytes) → IsTrue s.told → AreRead names s x → AreRead names s y → x ≡ y
 same_inputs names s x y t h k =
     let deck : x.deck ≡ y.deck = one_text names.deck s x.deck y.deck (h.deck_is.is t) (k.deck_is.is t) in
-    let console : x.console ≡ y.console = up_to_same names.console 0 s x.console y.console t h.console_is k.console_is in
+    let console : x.console ≡ y.console = one_text names.console s x.console y.console (h.console_is.is t) (k.console_is.is t) in
     let schedule : x.schedule ≡ y.schedule = up_to_same names.schedule schedule_limit s x.schedule y.schedule t h.schedule_is k.schedule_is in
     let script : x.script ≡ y.script = up_to_same names.script 0 s x.script y.script t h.script_is k.script_is in
     ap (λ d. input_bytes d x.console x.schedule x.script) deck
@@ -81,14 +80,14 @@ same_inputs names s x y t h k =
 
 -- ---- all turns that are built are made
 
-pub built_head : (n : ℕ) (m : Model) (b : Bool) → is_built m 0 ≡ b → are_built (suc n) m ≡ true → (is_built m 0 ≡ true) × (are_built n (next m 0) ≡ true)
+pub built_head : (n : ℕ) (m : Model) (b : Bool) → is_built m 0 ≡ b → are_built (suc n) m ≡ true → (is_built m 0 ≡ true) × (are_built n (turned m 0) ≡ true)
 built_head n m true e h = (e, rw e at h)
 built_head n m false e h = let no : false ≡ true = rw e at h in absurd cc
 
 pub built_at : (n k : ℕ) (m : Model) → are_built n m ≡ true → k < n → is_built (after_turns k m) 0 ≡ true
 built_at zero k m h lt = absurd (omega arith)
 built_at (suc n) zero m h lt = (built_head n m (is_built m 0) refl h).0
-built_at (suc n) (suc k) m h lt = built_at n k (next m 0) (built_head n m (is_built m 0) refl h).1 (omega arith)
+built_at (suc n) (suc k) m h lt = built_at n k (turned m 0) (built_head n m (is_built m 0) refl h).1 (omega arith)
 
 -- two runs of one told shelf are one
 pub same_turns : (names : Names) (s : ShelfView) (n k : ℕ) (x y : Model) → IsTrue s.told → IsRun names s n x → IsRun names s k y → n ≡ k
@@ -102,7 +101,7 @@ same_start names s n k x y t h g =
     let inputs = same_inputs names s h.inputs g.inputs t h.read g.read in
     let both : Ok h.deck ≡ Ok g.deck = sym h.deck_is ∙ ap (λ i. image storage_size i.deck) inputs ∙ g.deck_is in
     let deck : h.deck ≡ g.deck = cc in
-    h.starts ∙ ap (λ d. start 1 d.bytes d.entry []) deck ∙ sym g.starts
+    h.starts ∙ ap (λ d. start 1 d.bytes d.entry h.inputs.console) deck ∙ ap (λ i. start 1 g.deck.bytes g.deck.entry i.console) inputs ∙ sym g.starts
 
 pub not_before : (names : Names) (turns : ℕ) (a b : ShelfView) (o p : SinkView) → IsAccepted names a turns → EndsBefore names a b o p → ⊥
 not_before names turns a b o p ok h =
@@ -130,12 +129,9 @@ job_complete names turns a b o p e f (DeckRefused r) h ok nf =
     let clash : Ok ok.run.deck ≡ Err r = sym ok.run.deck_is ∙ ap (λ i. image storage_size i.deck) inputs ∙ h.0.because.refusal_is.refused in
     absurd cc
 job_complete names turns a b o p e f (TooLarge Deck) h ok nf =
-    let m = h.0.because ok.told in
-    let same : length ok.run.inputs.deck ≡ length m.0 = ap length (one_text names.deck a ok.run.inputs.deck m.0 (ok.run.read.deck_is.is ok.told) m.1) in
-    let bound : length ok.run.inputs.deck ≤ 16000000 = ok.run.read.deck_is.bound in
-    let above : 16000000 < length m.0 = m.2 in
-    absurd (omega arith)
-job_complete names turns a b o p e f (TooLarge Console) h ok nf = absurd h.0.because
+    absurd (within_is_not_above names.deck deck_limit a ok.run.inputs.deck ok.told ok.run.read.deck_is (h.0.because.above ok.told))
+job_complete names turns a b o p e f (TooLarge Console) h ok nf =
+    absurd (within_is_not_above names.console console_limit a ok.run.inputs.console ok.told ok.run.read.console_is (h.0.because.1.above ok.told))
 job_complete names turns a b o p e f (TooLarge Schedule) h ok nf = absurd h.0.because
 job_complete names turns a b o p e f (TooLarge Script) h ok nf = absurd h.0.because
 job_complete names turns a b o p e f NoMemory h ok nf = inr refl

@@ -6,7 +6,7 @@ use Rattle.g5_outside.specs.Views.{ShelfView, SinkView}
 use Rattle.g5_writing.specs.Outputs.{Grew}
 use Rattle.g5_writing.specs.Starts.{text_named}
 use Rattle.g5_writing.specs.declared.outputs.OutputFiles.{OutputFiles}
-use Rattle.esa_model.specs.declared.outputs.Place.TheVariants.{Log, Trace, Out}
+use Rattle.esa_model.specs.declared.outputs.Place.TheVariants.{Log, Trace}
 use Rattle.esa_model.specs.Pieces.{Piece, text}
 use Rattle.g5_run.specs.Words.{Names}
 use Rattle.g5_run.specs.Ends.{Holds}

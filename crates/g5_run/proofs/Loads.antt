@@ -1,7 +1,6 @@
 -- A deck that is loaded or refused.
-use Rattle.std.proofs.Common.{◌≡◌, ◌≢◌, ℕ, List, refl, sym, ◌∙◌, ap, length, replicate, Result, Err, true}
+use Rattle.std.proofs.Common.{◌≡◌, ◌≢◌, ℕ, List, refl, sym, ◌∙◌, ap, length, replicate, Result, Err}
 use Rattle.std.proofs.lemmas.List.{length-replicate}
-use Rattle.g5_outside.specs.Views.{ShelfView}
 use Rattle.deck_loader.specs.Listed.{Refuses}
 use Rattle.esa_model.specs.declared.decks.DeckRefusal.{DeckRefusal}
 use Rattle.esa_model.specs.declared.decks.DeckRefusal.TheVariants.{NotCards, BadFirstByte, UnknownCard, BadCount, Unsupported, NoEnd, DuplicateId, DuplicateName, UnknownId, TextOutside, RldOutside, EntryOutside, Unresolved, NoRoom, NoMemory}

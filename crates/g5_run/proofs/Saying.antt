@@ -1,9 +1,8 @@
 -- A text that is written by several calls.
-use Rattle.std.proofs.Common.{◌≡◌, ◌⊎◌, ℕ, ◌+◌, List, [], ◌∷◌, ◌++◌, take, length, min, refl, sym, ◌∙◌, ap, arith, Result, Ok, Err, inl, inr, IsTrue, subst}
+use Rattle.std.proofs.Common.{◌≡◌, ℕ, ◌+◌, List, ◌++◌, take, length, min, ◌∙◌, ap, arith, Result, Ok, Err, inl, inr, subst}
 use Rattle.std.proofs.Math.Seq.{take-append-add}
 use Rattle.std.proofs.lemmas.List.{take-append-le, take_min}
 use Rattle.g5_outside.specs.Views.{SinkView}
-use Rattle.g5_outside.specs.Causes.{Rose}
 use Rattle.g5_writing.specs.Outputs.{SinkGrew, AddsToSink}
 use Rattle.g5_writing.proofs.Faults.{rose_before}
 use Rattle.g5_writing.proofs.Adding.{sink_grew_more}

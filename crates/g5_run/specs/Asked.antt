@@ -1,5 +1,5 @@
 -- The turns that inputs of the form that is built ask for. Source: choice of this project.
-use Rattle.std.specs.Prelude.{ℕ, Bool, true, false, ◌&&◌, if◌then◌else◌, List, [], ◌∷◌, Option, Some, None}
+use Rattle.std.specs.Prelude.{ℕ, Bool, true, false, if◌then◌else◌, List, [], ◌∷◌, Option, Some, None}
 use Rattle.g5_run.specs.Inputs.{InputBytes}
 use Rattle.g5_run.specs.ScheduleForm.{turns_in}
 
@@ -12,6 +12,6 @@ abbrev pub schedule_turns : Option (List ℕ) → Option ℕ
 schedule_turns None = None
 schedule_turns (Some text) = turns_in text
 
--- console input and script are empty, and the schedule has its form
+-- the script is empty, and the schedule has its form
 unfoldable pub asked : InputBytes → Option ℕ
-asked inputs = if is_nothing inputs.console && is_nothing inputs.script then schedule_turns inputs.schedule else None
+asked inputs = if is_nothing inputs.script then schedule_turns inputs.schedule else None

@@ -3,8 +3,8 @@ use Rattle.std.specs.Prelude.{◌≡◌, ℕ, IsTrue, true}
 use Rattle.g5_outside.specs.Views.{ShelfView, SinkView}
 use Rattle.g5_outside.specs.Causes.{Rose}
 use Rattle.esa_model.specs.Machine.{Machine as Model}
-use Rattle.esa_model.specs.Texts.{are_built}
 use Rattle.g5_run.specs.Words.{Names}
+use Rattle.g5_run.specs.RunTexts.{are_built}
 use Rattle.g5_run.specs.Readiness.{IsRun}
 use Rattle.g5_run.specs.declared.status.Status.{Status}
 use Rattle.g5_run.specs.declared.status.Status.TheVariants.{Done, Usage, NoFile, ReadFault, WriteFault, DeckRefused, TooLarge, NoMemory, NotYet}

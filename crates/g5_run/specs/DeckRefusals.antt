@@ -1,6 +1,6 @@
 -- Refusals of a deck.
-use Rattle.std.specs.Prelude.{◌≡◌, ◌≢◌, ℕ, List, Result, Err}
-use Rattle.esa_model.specs.Image.{Image, image}
+use Rattle.std.specs.Prelude.{◌≡◌, ◌≢◌, ℕ, List, Err}
+use Rattle.esa_model.specs.Image.{image}
 use Rattle.esa_model.specs.declared.decks.DeckRefusal.{DeckRefusal}
 use Rattle.esa_model.specs.declared.decks.DeckRefusal.TheVariants.{NoMemory}
 

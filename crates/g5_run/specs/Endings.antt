@@ -1,5 +1,4 @@
 -- How a job ends, before anything is said of it.
-use Rattle.std.specs.Prelude.{ℕ}
 use Rattle.g5_outside.specs.Views.{ShelfView, SinkView}
 use Rattle.g5_run.specs.Words.{Names}
 use Rattle.g5_run.specs.Ends.{EndsWhole, EndsEarly}
@@ -7,5 +6,5 @@ use Rattle.g5_run.specs.declared.top.Ending.{Ending}
 use Rattle.g5_run.specs.declared.top.Ending.TheVariants.{Whole, Early}
 
 abbrev pub IsEnding : Names → ShelfView → ShelfView → SinkView → SinkView → Ending → Type 0
-IsEnding names a b o p (Whole turns) = EndsWhole names turns a b o p
+IsEnding names a b o p (Whole tally) = EndsWhole names tally.turns tally.commits a b o p
 IsEnding names a b o p (Early status) = EndsEarly names a b o p status

@@ -6,10 +6,10 @@ use Rattle.g5_writing.specs.Starts.{text_named}
 use Rattle.esa_model.specs.declared.outputs.Place.TheVariants.{Log, Trace, Out}
 use Rattle.esa_model.specs.Pieces.{Piece, text, IsCut}
 use Rattle.esa_model.specs.Machine.{Machine as Model}
-use Rattle.esa_model.specs.Built.{is_built}
-use Rattle.esa_model.specs.Texts.{whole, pieces_before, after_turns, are_built, report}
+use Rattle.esa_model.specs.Texts.{whole, pieces_before, after_turns, commits_after, report}
+use Rattle.g5_machine.specs.Built.{is_built}
 use Rattle.g5_run.specs.Words.{Names}
-use Rattle.g5_run.specs.RunTexts.{run_pieces, all_committed}
+use Rattle.g5_run.specs.RunTexts.{run_pieces, are_built, faultless}
 use Rattle.g5_run.specs.Readiness.{IsRun, IsNotReady}
 use Rattle.g5_run.specs.Lines.{line_of}
 use Rattle.g5_run.specs.Says.{Says}
@@ -27,11 +27,12 @@ pub record Untouched (old new : ShelfView) (out_old out_new : SinkView) : Type 0
   pub numbers : new.numbers ≡ old.numbers
   pub out : out_new ≡ out_old
 
--- all turns of the schedule were made, and the outputs are whole
-pub record EndsWhole (names : Names) (turns : ℕ) (old new : ShelfView) (out_old out_new : SinkView) : Type 0 where
+-- all turns of the schedule were made, so many of them were commits, and the outputs are whole
+pub record EndsWhole (names : Names) (turns commits : ℕ) (old new : ShelfView) (out_old out_new : SinkView) : Type 0 where
   pub m : Model
   pub run : IsRun names old turns m
   pub built : are_built turns m ≡ true
+  pub counts : commits ≡ commits_after turns 0 m
   pub holds : Holds names (whole turns m) new out_old out_new
   pub found : new.found ≡ true
 
@@ -76,7 +77,7 @@ EndsEarly names a b o p NotYet = EndsUntouched (IsNotReady names a b NotYet) a b
 
 -- Done has the report on `err`, and each other status its line
 abbrev pub JobEnds : Names → ShelfView → ShelfView → SinkView → SinkView → SinkView → SinkView → Status → Type 0
-JobEnds names a b o p e f Done = (turns : ℕ) × EndsWhole names turns a b o p × Says (report (all_committed turns)) e f
+JobEnds names a b o p e f Done = (turns : ℕ) × (commits : ℕ) × EndsWhole names turns commits a b o p × Says (report (faultless turns commits)) e f
 JobEnds names a b o p e f Usage = ⊥
 JobEnds names a b o p e f (NoFile input) = EndsEarly names a b o p (NoFile input) × Says (line_of names (NoFile input)) e f
 JobEnds names a b o p e f ReadFault = EndsEarly names a b o p ReadFault × Says (line_of names ReadFault) e f

@@ -1,5 +1,5 @@
 -- What is so before a file is created: the run that the inputs ask for, or why there is none.
-use Rattle.std.specs.Prelude.{◌≡◌, ℕ, List, [], Ok, Some, None, true}
+use Rattle.std.specs.Prelude.{◌≡◌, ℕ, Ok, Some, None, true}
 use Rattle.g5_outside.specs.Views.{ShelfView}
 use Rattle.g5_outside.specs.Causes.{Rose}
 use Rattle.esa_model.specs.Image.{Image, image}
@@ -8,6 +8,7 @@ use Rattle.g5_machine.specs.Turns.{StandsFor}
 use Rattle.g5_run.specs.Words.{Names}
 use Rattle.g5_run.specs.Inputs.{InputBytes, AreRead, IsAbsent, IsAboveLimit}
 use Rattle.g5_run.specs.Asked.{asked}
+use Rattle.g5_run.specs.Making.{none_made}
 use Rattle.g5_run.specs.DeckRefusals.{storage_size, IsDeckRefusal}
 use Rattle.esa_model.specs.declared.decks.DeckRefusal.{DeckRefusal}
 use Rattle.g5_run.specs.declared.loading.Ready.{Ready}
@@ -21,12 +22,12 @@ pub record IsRun (names : Names) (shelf : ShelfView) (turns : ℕ) (m : Model) :
   pub asks : asked inputs ≡ Some turns
   pub deck : Image
   pub deck_is : image storage_size inputs.deck ≡ Ok deck
-  pub starts : m ≡ start 1 deck.bytes deck.entry []
+  pub starts : m ≡ start 1 deck.bytes deck.entry inputs.console
 
 pub record IsReady (names : Names) (old new : ShelfView) (ready : Ready) : Type 0 where
   pub m : Model
   pub run : IsRun names old ready.turns m
-  pub stands : StandsFor ready.machine m
+  pub stands : StandsFor ready.machine m none_made
   pub found : new.found ≡ true
 
 -- the deck that was read is refused
@@ -36,7 +37,7 @@ pub record HasDeckRefusal (names : Names) (old new : ShelfView) (refusal : DeckR
   pub refusal_is : IsDeckRefusal storage_size inputs.deck refusal
   pub found : new.found ≡ true
 
--- the deck has an image, and another input is not of the form that is built
+-- the deck has an image, and schedule or script is not of the form that is built
 pub record HasUnbuiltInput (names : Names) (old new : ShelfView) : Type 0 where
   pub inputs : InputBytes
   pub read : AreRead names old inputs
@@ -53,6 +54,6 @@ IsNotReady names old new (NoFile input) = IsAbsent names old new input
 IsNotReady names old new ReadFault = Rose old.read_faults new.read_faults
 IsNotReady names old new WriteFault = ⊥
 IsNotReady names old new (DeckRefused refusal) = HasDeckRefusal names old new refusal
-IsNotReady names old new (TooLarge input) = IsAboveLimit names old input
+IsNotReady names old new (TooLarge input) = IsAboveLimit names old new input
 IsNotReady names old new NoMemory = Unit {0}
 IsNotReady names old new NotYet = HasUnbuiltInput names old new

@@ -3,7 +3,7 @@ ghost use Rattle.std.specs.Prelude.{◌≡◌, ◌<◌, ◌≤◌, ◌^◌, OnOk
 ghost use Rattle.g5_reading.specs.Inputs.{OnlyReads};
 ghost use Rattle.g5_run.specs.Words.{names_of};
 ghost use Rattle.g5_run.specs.Asked.{asked, is_nothing};
-ghost use Rattle.g5_run.specs.Inputs.{AreRead, IsIn, IsUpTo, IsRefusal, IsDeckUnread, IsUnread, bytes_of, items_of, deck_limit};
+ghost use Rattle.g5_run.specs.Inputs.{AreRead, IsIn, IsUpTo, IsRefusal, IsUnreadWithin, IsUnread, bytes_of, items_of};
 
 use crate::job::Job;
 use crate::schedule_form::turns_of;
@@ -29,11 +29,12 @@ pub enum InputRefusal {
     NoMemory,
 }
 
-/// The bytes of the inputs; `None` stands for one that is longer than the longest that is built.
+/// The bytes of the inputs; `None` stands for a schedule or script that is longer than the longest that is
+/// built.
 #[derive(Drop)]
 pub struct Inputs {
     pub deck: Vec<u8>,
-    pub console: Option<Vec<u8>>,
+    pub console: Vec<u8>,
     pub schedule: Option<Vec<u8>>,
     pub script: Option<Vec<u8>>,
 }
@@ -41,21 +42,31 @@ pub struct Inputs {
 /// The greatest number of bytes of a deck.
 pub const DECK_LIMIT: usize = 16_000_000;
 
+/// The greatest number of bytes of the console input.
+pub const CONSOLE_LIMIT: usize = 1_048_576;
+
 // The longest schedule that is built: `0*1000000` and a line feed.
 const SCHEDULE_LIMIT: usize = 10;
 
-// Reads the deck whole.
-fn read_deck<F: Shelf>(alloc: Global, shelf: &mut F, name: &str) -> Result<Vec<u8>, InputRefusal>
+// Reads an input whole, which has a limit.
+fn read_within<F: Shelf>(
+    alloc: Global,
+    shelf: &mut F,
+    input: Input,
+    name: &str,
+    limit: usize,
+) -> Result<Vec<u8>, InputRefusal>
+    requires { limit < 2 ^ 32 }
     ensures only { OnlyReads (F.seen shelf.old) (F.seen shelf.new) }
-    ensures bytes { IfOk result (λ bytes. IsIn name.now deck_limit (F.seen shelf.old) bytes.items) }
-    ensures refusal { IfErr result (IsDeckUnread name.now (F.seen shelf.old) (F.seen shelf.new)) }
+    ensures bytes { IfOk result (λ bytes. IsIn name.now limit (F.seen shelf.old) bytes.items) }
+    ensures refusal { IfErr result (IsUnreadWithin input name.now limit (F.seen shelf.old) (F.seen shelf.new)) }
     ensures found { OnOk result ((F.seen shelf.new).found ≡ true) }
 {
-    match read_whole(alloc, shelf, name, DECK_LIMIT) {
+    match read_whole(alloc, shelf, name, limit) {
         Ok(bytes) => Ok(bytes),
-        Err(ReadRefusal::NoFile) => Err(InputRefusal::NoFile(Input::Deck)),
+        Err(ReadRefusal::NoFile) => Err(InputRefusal::NoFile(input)),
         Err(ReadRefusal::Fault) => Err(InputRefusal::Fault),
-        Err(ReadRefusal::TooLarge) => Err(InputRefusal::TooLarge(Input::Deck)),
+        Err(ReadRefusal::TooLarge) => Err(InputRefusal::TooLarge(input)),
         Err(ReadRefusal::NoMemory) => Err(InputRefusal::NoMemory),
     }
 }
@@ -94,22 +105,10 @@ pub fn read_inputs<F: Shelf>(
     ensures refusal { IfErr result (IsRefusal (names_of job.now) (F.seen shelf.old) (F.seen shelf.new)) }
     ensures found { OnOk result ((F.seen shelf.new).found ≡ true) }
 {
-    let deck = match read_deck(alloc, shelf, job.deck) {
-        Ok(deck) => deck,
-        Err(refusal) => return Err(refusal),
-    };
-    let console = match read_up_to(alloc, shelf, Input::Console, job.console, 0) {
-        Ok(console) => console,
-        Err(refusal) => return Err(refusal),
-    };
-    let schedule = match read_up_to(alloc, shelf, Input::Schedule, job.schedule, SCHEDULE_LIMIT) {
-        Ok(schedule) => schedule,
-        Err(refusal) => return Err(refusal),
-    };
-    let script = match read_up_to(alloc, shelf, Input::Script, job.script, 0) {
-        Ok(script) => script,
-        Err(refusal) => return Err(refusal),
-    };
+    let deck = read_within(alloc, shelf, Input::Deck, job.deck, DECK_LIMIT)?;
+    let console = read_within(alloc, shelf, Input::Console, job.console, CONSOLE_LIMIT)?;
+    let schedule = read_up_to(alloc, shelf, Input::Schedule, job.schedule, SCHEDULE_LIMIT)?;
+    let script = read_up_to(alloc, shelf, Input::Script, job.script, 0)?;
     Ok(Inputs {
         deck,
         console,
@@ -127,16 +126,14 @@ fn is_empty(input: &Option<Vec<u8>>) -> bool
     }
 }
 
-/// The turns that the inputs ask for, where console input and script are empty and the schedule has its form.
+/// The turns that the inputs ask for, where the script is empty and the schedule has its form.
 #[tactic(auto, unfolding(crate::specs::Asked::asked))]
 pub fn turns_asked(inputs: &Inputs) -> Option<u64>
     ensures turns { result ≡ asked (bytes_of inputs.now) }
     ensures bound { IfSome result (λ n. n ≤ 1000000) }
 {
     match &inputs.schedule {
-        Some(schedule) if is_empty(&inputs.console) && is_empty(&inputs.script) => turns_of(
-            schedule,
-        ),
+        Some(schedule) if is_empty(&inputs.script) => turns_of(schedule),
         _ => None,
     }
 }

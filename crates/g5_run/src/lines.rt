@@ -85,14 +85,8 @@ fn name_of<'a>(job: &Job<'a>, input: Input) -> &'a str
 fn add_parts<E: Sink>(err: &mut E, first: &[u8], second: &[u8]) -> Result<(), Failed>
     ensures { AddsToSink (first.now ++ (second.now ++ 10 ∷ [])) (E.seen err.old) (E.seen err.new) result }
 {
-    match add_to_sink(err, first) {
-        Err(failed) => return Err(failed),
-        Ok(()) => {}
-    }
-    match add_to_sink(err, second) {
-        Err(failed) => return Err(failed),
-        Ok(()) => {}
-    }
+    add_to_sink(err, first)?;
+    add_to_sink(err, second)?;
     add_to_sink(err, b"\n")
 }
 

@@ -7,6 +7,7 @@ ghost use Rattle.g5_outside.specs.Views.{ShelfView};
 ghost use Rattle.g5_run.specs.Words.{Names, names_of};
 ghost use Rattle.g5_run.specs.Inputs.{IsRefusal};
 ghost use Rattle.g5_run.specs.Loading.{IsLoadRefused};
+ghost use Rattle.g5_run.specs.Making.{IsFresh};
 ghost use Rattle.g5_run.specs.Readiness.{IsReady, IsNotReady};
 
 use crate::inputs::{InputRefusal, read_inputs, turns_asked};
@@ -81,6 +82,7 @@ fn status_of(refusal: InputRefusal) -> Status
 pub fn prepare<F: Shelf>(alloc: Global, job: &Job<'_>, shelf: &mut F) -> Result<Ready, Status>
     ensures only { OnlyReads (F.seen shelf.old) (F.seen shelf.new) }
     ensures ready { IfOk result (IsReady (names_of job.now) (F.seen shelf.old) (F.seen shelf.new)) }
+    ensures fresh { IfOk result (λ ready. IsFresh ready.machine) }
     ensures turns { IfOk result (λ ready. ready.turns ≤ 1000000) }
     ensures refused { IfErr result (IsNotReady (names_of job.now) (F.seen shelf.old) (F.seen shelf.new)) }
 {
@@ -88,15 +90,12 @@ pub fn prepare<F: Shelf>(alloc: Global, job: &Job<'_>, shelf: &mut F) -> Result<
         Ok(inputs) => inputs,
         Err(refusal) => return Err(status_of(refusal)),
     };
-    let deck = match load_into(alloc, &inputs.deck, STORAGE_SIZE) {
-        Ok(deck) => deck,
-        Err(status) => return Err(status),
-    };
+    let deck = load_into(alloc, &inputs.deck, STORAGE_SIZE)?;
     let turns = match turns_asked(&inputs) {
         Some(turns) => turns,
         None => return Err(Status::NotYet),
     };
-    match Machine::new(alloc, deck.storage, deck.entry) {
+    match Machine::new(alloc, deck.storage, deck.entry, 1, inputs.console) {
         Ok(machine) => Ok(Ready { machine, turns }),
         Err(_) => Err(Status::NoMemory),
     }

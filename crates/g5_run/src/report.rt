@@ -3,9 +3,10 @@
 
 ghost use Rattle.std.specs.Prelude.{◌≡◌, ◌≤◌, ◌++◌, ◌∷◌, [], codes};
 ghost use Rattle.esa_model.specs.Texts.{head, tail, report};
-ghost use Rattle.g5_run.specs.RunTexts.{all_committed};
+ghost use Rattle.g5_run.specs.RunTexts.{faultless};
 
 use crate::lines::put_text;
+use crate::turning::Tally;
 use arrayvec::ArrayVec;
 use esa_words::decimal;
 
@@ -44,17 +45,17 @@ pub fn log_tail(turns: u64) -> ArrayVec<u8, 64>
     out
 }
 
-/// The report on so many turns, each of them a commit.
+/// The report on a run of the one CPU without a fault.
 #[tactic(auto, unfolding(esa_model::specs::Texts::report))]
-pub fn report_of(turns: u64) -> ArrayVec<u8, 192>
-    ensures { result.items ≡ report (all_committed turns) }
+pub fn report_of(tally: Tally) -> ArrayVec<u8, 192>
+    ensures { result.items ≡ report (faultless tally.turns tally.commits) }
 {
     let mut out = ArrayVec::new();
     put_text(&mut out, b"premise within");
     put_text(&mut out, b"\nturns ");
-    put_text(&mut out, &decimal(turns));
+    put_text(&mut out, &decimal(tally.turns));
     put_text(&mut out, b" commits ");
-    put_text(&mut out, &decimal(turns));
+    put_text(&mut out, &decimal(tally.commits));
     put_text(&mut out, b" retries ");
     put_text(&mut out, &decimal(0));
     put_text(&mut out, b" spared ");

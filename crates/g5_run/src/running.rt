@@ -3,11 +3,11 @@ ghost use Rattle.std.specs.Prelude.{◌≡◌, ◌≤◌};
 ghost use Rattle.esa_model.specs.Machine.{Machine as Model};
 ghost use Rattle.g5_machine.specs.Turns.{StandsFor};
 ghost use Rattle.g5_writing.specs.Outputs.{HasFiles, Puts};
-ghost use Rattle.g5_run.specs.Making.{MakesRun};
+ghost use Rattle.g5_run.specs.Making.{IsFresh, none_made, MakesRun};
 ghost use Rattle.g5_run.specs.RunTexts.{end_pieces};
 
 use crate::report::{log_head, log_tail};
-use crate::turning::make_turns;
+use crate::turning::{Tally, make_turns};
 use g5_machine::Machine;
 use g5_outside::{Failed, Shelf, Sink};
 use g5_writing::{OutputFiles, Place, put};
@@ -30,29 +30,22 @@ fn end_log<F: Shelf, O: Sink>(
     }
 }
 
-/// Makes so many turns, or those before the first that is not built, writes what they give, and answers how
-/// many it made.
+/// Makes so many turns of a machine at its start, or those before the first that is not built, writes what they
+/// give, and counts them.
 pub fn make_run<F: Shelf, O: Sink>(
     shelf: &mut F,
     out: &mut O,
     files: OutputFiles,
     machine: &mut Machine,
     turns: u64,
-) -> Result<u64, Failed>
+) -> Result<Tally, Failed>
     requires files { HasFiles (F.seen shelf.old) files }
+    requires fresh { IsFresh machine.old }
     requires turns { turns ≤ 1000000 }
-    ensures { (m : Model) → StandsFor machine.old m → MakesRun files turns m (F.seen shelf.old) (F.seen shelf.new) (O.seen out.old) (O.seen out.new) result }
+    ensures { (m : Model) → StandsFor machine.old m none_made → MakesRun files turns m (F.seen shelf.old) (F.seen shelf.new) (O.seen out.old) (O.seen out.new) result }
 {
-    match put(shelf, out, files, Place::Log, &log_head()) {
-        Err(failed) => return Err(failed),
-        Ok(()) => {}
-    }
-    let made = match make_turns(shelf, out, files, machine, turns) {
-        Err(failed) => return Err(failed),
-        Ok(made) => made,
-    };
-    match end_log(shelf, out, files, turns, made) {
-        Err(failed) => Err(failed),
-        Ok(()) => Ok(made),
-    }
+    put(shelf, out, files, Place::Log, &log_head())?;
+    let tally = make_turns(shelf, out, files, machine, turns)?;
+    end_log(shelf, out, files, turns, tally.turns)?;
+    Ok(tally)
 }

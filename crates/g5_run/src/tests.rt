@@ -2,8 +2,14 @@
 ghost use Rattle.std.specs.Prelude.{◌≡◌, [], IfOk};
 ghost use Rattle.g5_outside.specs.MemoryShelves.{shelf_view};
 
+mod faults;
+mod groups;
+mod refusals;
+mod rows;
+mod runs;
+
 use crate::{Status, g5_top};
-use g5_outside::{FileNo, MemoryShelf, MemorySink, NamedFile};
+use g5_outside::{MemoryShelf, MemorySink, NamedFile};
 use std::alloc::Global;
 use std::test::Fail;
 
@@ -40,12 +46,24 @@ const TRACE: &[u8] = b"\
 
 const HEAD: &[u8] = b"G5LOG 1 CPUS 1 SPARES 0 THRESHOLD 3\n";
 
-fn words(alloc: Global, texts: &[&str]) -> Result<Vec<String>, Fail> {
+const WORDS: &[&str] = &["run", "D", "C", "S", "F", "L", "T"];
+
+fn words_of(alloc: Global, texts: &[&str]) -> Result<Vec<String>, Fail> {
     let mut words = Vec::new(alloc);
     for text in texts {
         words.push(String::from_str(alloc, text)?)?;
     }
     Ok(words)
+}
+
+// The bytes of the four inputs, and which calls of the shelf fail.
+#[derive(Clone, Copy)]
+struct Given<'a> {
+    deck: &'a [u8],
+    console: &'a [u8],
+    schedule: &'a [u8],
+    script: &'a [u8],
+    failing: &'a [u64],
 }
 
 fn file(alloc: Global, name: &str, bytes: &[u8]) -> Result<NamedFile, Fail> {
@@ -55,130 +73,86 @@ fn file(alloc: Global, name: &str, bytes: &[u8]) -> Result<NamedFile, Fail> {
     })
 }
 
-fn shelf(alloc: Global, deck: &[u8], schedule: &[u8], failing: &[u64]) -> Result<MemoryShelf, Fail>
+fn shelf_of(alloc: Global, given: &Given<'_>) -> Result<MemoryShelf, Fail>
     ensures { IfOk result (λ s. (shelf_view s).numbers ≡ []) }
 {
     let mut files = Vec::new(alloc);
-    files.push(file(alloc, "D", deck)?)?;
-    files.push(file(alloc, "C", b"")?)?;
-    files.push(file(alloc, "S", schedule)?)?;
-    files.push(file(alloc, "F", b"")?)?;
-    Ok(MemoryShelf::new(alloc, files, Vec::from_slice(alloc, failing)?, 400)?)
+    files.push(file(alloc, "D", given.deck)?)?;
+    files.push(file(alloc, "C", given.console)?)?;
+    files.push(file(alloc, "S", given.schedule)?)?;
+    files.push(file(alloc, "F", given.script)?)?;
+    Ok(MemoryShelf::new(alloc, files, Vec::from_slice(alloc, given.failing)?, 1000)?)
 }
 
-#[test]
-fn first_path(rt: HostRuntime) -> Result<(), Fail> {
-    let alloc = rt.alloc();
-    let words = words(alloc, &["run", "D", "C", "S", "F", "L", "T"])?;
-    let mut shelf = shelf(alloc, &DECK, b"0*10", &[])?;
+// How a run ended, and what it left.
+#[derive(Drop)]
+struct Left {
+    status: Status,
+    shelf: MemoryShelf,
+    out: MemorySink,
+    err: MemorySink,
+}
+
+// The top call, with so much room on `err`.
+fn run(alloc: Global, texts: &[&str], given: &Given<'_>, room: usize) -> Result<Left, Fail> {
+    let words = words_of(alloc, texts)?;
+    let mut shelf = shelf_of(alloc, given)?;
     let mut out = MemorySink::new(alloc, Vec::new(alloc), 400)?;
-    let mut err = MemorySink::new(alloc, Vec::new(alloc), 400)?;
+    let mut err = MemorySink::new(alloc, Vec::new(alloc), room)?;
     let status = g5_top(alloc, &words, &mut shelf, &mut out, &mut err);
-    assert_eq!(rt; status, Status::Done);
-    assert_eq!(rt;
-        shelf.text_of(FileNo(0)),
-        b"G5LOG 1 CPUS 1 SPARES 0 THRESHOLD 3\nEND 10\n".as_slice()
-    );
-    assert_eq!(rt; shelf.text_of(FileNo(1)), TRACE);
-    assert_eq!(rt; out.taken(), [0xC8, 0xC9].as_slice());
-    assert_eq!(rt;
-        err.taken(),
-        b"premise within\nturns 10 commits 10 retries 0 spared 0 stopped 0\n".as_slice()
-    );
-    Ok(())
+    Ok(Left {
+        status,
+        shelf,
+        out,
+        err,
+    })
 }
 
-#[test]
-fn refusals(rt: HostRuntime) -> Result<(), Fail> {
-    let alloc = rt.alloc();
-    let large = vec![in alloc; 0; 16_000_001]?;
-    let usual: &[&str] = &["run", "D", "C", "S", "F", "L", "T"];
-    let cases: [(&[&str], &[u8], &[u8], &[u64], u8, &[u8]); 12] = [
-        (&["run", "D", "C"], &DECK, b"0*10", &[], 2, b"usage\n"),
-        (
-            &["run", "D", "C", "S", "F", "L", "L"],
-            &DECK,
-            b"0*10",
-            &[],
-            2,
-            b"usage\n",
-        ),
-        (
-            &["run", "D", "C", "S", "-F", "L", "T"],
-            &DECK,
-            b"0*10",
-            &[],
-            2,
-            b"usage\n",
-        ),
-        (
-            &["run", "nodeck", "C", "S", "F", "L", "T"],
-            &DECK,
-            b"0*10",
-            &[],
-            3,
-            b"no file: nodeck\n",
-        ),
-        (usual, &DECK, b"0*10", &[1], 4, b"read fault\n"),
-        (usual, &DECK, b"0*10", &[7], 4, b"read fault\n"),
-        (usual, b"", b"0*10", &[], 6, b"deck refused: NoEnd\n"),
-        (
-            usual,
-            &DECK[..81],
-            b"0*10",
-            &[],
-            6,
-            b"deck refused: NotCards\n",
-        ),
-        (
-            usual,
-            &DECK[80..],
-            b"0*10",
-            &[],
-            6,
-            b"deck refused: UnknownId 1\n",
-        ),
-        (usual, &large, b"0*10", &[], 9, b"too large: D\n"),
-        (usual, &DECK, b"0 1", &[], 11, b"not yet\n"),
-        (usual, &DECK, b"0*1000001\n", &[], 11, b"not yet\n"),
-    ];
-    for (texts, deck, schedule, failing, number, line) in cases {
-        let words = words(alloc, texts)?;
-        let mut shelf = shelf(alloc, deck, schedule, failing)?;
-        let mut out = MemorySink::new(alloc, Vec::new(alloc), 400)?;
-        let mut err = MemorySink::new(alloc, Vec::new(alloc), 400)?;
-        let status = g5_top(alloc, &words, &mut shelf, &mut out, &mut err);
-        assert_eq!(rt; status.number(), number);
-        assert_eq!(rt; err.taken(), line);
-        assert_eq!(rt; shelf.given(), 0);
-        assert_eq!(rt; out.taken(), b"".as_slice());
+fn add_card(deck: &mut Vec<u8>, left: &[u8]) -> Result<(), Fail> {
+    deck.extend_from_slice(left)?;
+    for _ in left.len()..80 {
+        deck.push(0x40)?;
     }
     Ok(())
 }
 
-// The head of the log is call 13, and the first trace line call 14.
-#[test]
-fn write_faults_and_an_end_not_yet_built(rt: HostRuntime) -> Result<(), Fail> {
-    let alloc = rt.alloc();
-    let cases: [(&[u8], &[u64], u8, &[u8], usize, &[u8]); 5] = [
-        (b"0*10", &[11], 5, b"", 0, b""),
-        (b"0*10", &[13], 5, b"", 0, b""),
-        (b"0*10", &[16], 5, HEAD, 46, b""),
-        (b"0*10", &[24], 5, HEAD, 231, &[0xC8, 0xC9]),
-        (b"0*12\n", &[], 11, HEAD, 231, &[0xC8, 0xC9]),
-    ];
-    for (schedule, failing, number, log, length, console) in cases {
-        let words = words(alloc, &["run", "D", "C", "S", "F", "L", "T"])?;
-        let mut shelf = shelf(alloc, &DECK, schedule, failing)?;
-        let mut out = MemorySink::new(alloc, Vec::new(alloc), 400)?;
-        let mut err = MemorySink::new(alloc, Vec::new(alloc), 4)?;
-        let status = g5_top(alloc, &words, &mut shelf, &mut out, &mut err);
-        assert_eq!(rt; status.number(), number);
-        assert_eq!(rt; shelf.text_of(FileNo(0)), log);
-        assert_eq!(rt; shelf.text_of(FileNo(1)).len(), length);
-        assert!(rt; TRACE.starts_with(shelf.text_of(FileNo(1))));
-        assert_eq!(rt; out.taken(), console);
-        assert_eq!(rt; err.taken().len(), 4);
+// A deck of one section of fewer than 65,536 bytes.
+fn deck_of(alloc: Global, text: &[u8]) -> Result<Vec<u8>, Fail> {
+    let mut section = Vec::from_slice(
+        alloc,
+        &[
+            0x02, 0xC5, 0xE2, 0xC4, 0x40, 0x40, 0x40, 0x40, 0x40, 0x40, 0x00, 0x10, 0x40, 0x40,
+            0x00, 0x01, 0xD4, 0xC1, 0xC9, 0xD5, 0x40, 0x40, 0x40, 0x40, 0x00, 0x00, 0x00, 0x00,
+            0x40, 0x00,
+        ],
+    )?;
+    let length = (text.len() % 0x1_0000) as u16;
+    section.extend_from_slice(&length.to_be_bytes())?;
+    let mut deck = Vec::new(alloc);
+    add_card(&mut deck, &section)?;
+    let mut at: u16 = 0;
+    for part in text.chunks(56) {
+        let mut content = Vec::from_slice(alloc, &[0x02, 0xE3, 0xE7, 0xE3, 0x40, 0x00])?;
+        content.extend_from_slice(&at.to_be_bytes())?;
+        content.extend_from_slice(&[0x40, 0x40, 0x00, part.len() as u8])?;
+        content.extend_from_slice(&[0x40, 0x40, 0x00, 0x01])?;
+        content.extend_from_slice(part)?;
+        add_card(&mut deck, &content)?;
+        at = at.wrapping_add(56);
     }
-    Ok(())
+    add_card(&mut deck, &[0x02, 0xC5, 0xD5, 0xC4])?;
+    Ok(deck)
+}
+
+// A run of a deck of one section, with an empty console input.
+fn run_text(alloc: Global, text: &[u8], schedule: &[u8]) -> Result<Left, Fail> {
+    let deck = deck_of(alloc, text)?;
+    let given = Given {
+        deck: &deck,
+        console: b"",
+        schedule,
+        script: b"",
+        failing: &[],
+    };
+    run(alloc, WORDS, &given, 400)
 }

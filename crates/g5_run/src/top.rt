@@ -11,14 +11,15 @@ use crate::loading::prepare;
 use crate::report::report_of;
 use crate::running::make_run;
 use crate::status::Status;
+use crate::turning::Tally;
 use g5_outside::{Shelf, Sink};
 use g5_writing::start_files;
 use std::alloc::Global;
 
-/// How a job ended: after all of so many turns, or before.
+/// How a job ended: after all turns of its schedule, or before.
 #[derive(Clone, Copy, Debug, PartialEq, Eq)]
 pub enum Ending {
-    Whole(u64),
+    Whole(Tally),
     Early(Status),
 }
 
@@ -36,12 +37,12 @@ fn run_job<F: Shelf, O: Sink>(alloc: Global, job: &Job<'_>, shelf: &mut F, out: 
         Ok(files) => files,
         Err(_) => return Ending::Early(Status::WriteFault),
     };
-    let made = match make_run(shelf, out, files, &mut ready.machine, ready.turns) {
-        Ok(made) => made,
+    let tally = match make_run(shelf, out, files, &mut ready.machine, ready.turns) {
+        Ok(tally) => tally,
         Err(_) => return Ending::Early(Status::WriteFault),
     };
-    if made == ready.turns {
-        Ending::Whole(ready.turns)
+    if tally.turns == ready.turns {
+        Ending::Whole(tally)
     } else {
         Ending::Early(Status::NotYet)
     }
@@ -66,8 +67,8 @@ fn obey<F: Shelf, O: Sink, E: Sink>(
         }
     };
     match run_job(alloc, &job, shelf, out) {
-        Ending::Whole(turns) => {
-            say(err, &report_of(turns));
+        Ending::Whole(made) => {
+            say(err, &report_of(made));
             Status::Done
         }
         Ending::Early(status) => {

@@ -1,6 +1,6 @@
 -- The condition code of each value of words is below 5.
-use Rattle.std.proofs.Common.{◌≡◌, ℕ, ◌+◌, ◌*◌, ◌/◌, ◌%◌, ◌^◌, ◌<◌, Bool, true, false, List, [], ◌∷◌, refl, arith}
-use Rattle.std.specs.Prelude.{◌==◌, nat_lt, if◌then◌else◌, int_lt, ℤ, pos}
+use Rattle.std.proofs.Common.{ℕ, ◌<◌, Bool, true, false, List, [], ◌∷◌, arith}
+use Rattle.std.specs.Prelude.{◌==◌, if◌then◌else◌}
 use Rattle.esa_model.specs.declared.machine.Value.{Value}
 use Rattle.esa_model.specs.WordRows.{look, rr_rows, half_rows, shift_rows, rr_row, half_row, shift_row, test_code, load_positive_row, load_negative_row, load_and_test_row, load_complement_row, and_row, or_row, exclusive_or_row, compare_logical_row, load_row, compare_row, add_row, subtract_row, multiply_row, multiply_single_row, divide_row, add_logical_row, subtract_logical_row, load_half_row, compare_half_row, add_half_row, subtract_half_row, multiply_half_row, test_high_row, test_low_row, shift_right_logical_row, shift_left_logical_row, shift_right_row, shift_left_row, shift_right_double_logical_row, shift_left_double_logical_row, shift_right_double_row, shift_left_double_row}
 

@@ -4,7 +4,6 @@
 pub mod branches;
 mod masks;
 mod one_operand;
-mod opcodes;
 mod registers;
 pub mod stores;
 mod swaps;

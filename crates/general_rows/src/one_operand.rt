@@ -8,7 +8,7 @@ ghost use Rattle.esa_model.specs.MaskRows.{compare_under_mask_code, insert_chara
 ghost use Rattle.esa_model.specs.Moves.{combined};
 ghost use Rattle.esa_model.specs.WordRows.{bits_code};
 ghost use Rattle.esa_model.specs.Rows.Stores.{logicals, masked_len, register_count, registers_loaded, registers_stored, stored_len};
-ghost use Rattle.row_frame.specs.Made.{IsInRange, IsPlain, Covers};
+ghost use Rattle.row_frame.specs.Made.{IsInRange, IsPlain, Covers, IsQuiet};
 
 use crate::masks::{insert_under_mask, masked_count, order_of, put_byte, selected_of};
 use crate::registers::{bytes_stored, one_byte, registers_after, registers_of};
@@ -26,6 +26,7 @@ pub(crate) fn store_register(opcode: u16, r: &Registers, i: &Instruction) -> Eff
     requires { IsInRange i.now.decoded }
     ensures effect { result ≡ stores (advanced r.now i.now.len) (big_bytes (stored_len opcode) (general r.now i.now.decoded.r1 % 256 ^ stored_len opcode)) }
     ensures covers { Covers (one_of (whole_of (indexed r.now i.now.decoded) (stored_len opcode) false true)) result }
+    ensures quiet { IsQuiet result }
 {
     let bytes = bytes_stored(opcode, general_of(r, i.decoded.r1));
     store(after(r, i.len), bytes)
@@ -36,6 +37,7 @@ pub(crate) fn store_multiple(r: &Registers, i: &Instruction) -> Effect
     requires { IsInRange i.now.decoded }
     ensures effect { result ≡ stores (advanced r.now i.now.len) (registers_stored r.now i.now.decoded) }
     ensures covers { Covers (one_of (whole_of (second_at r.now i.now.decoded) (4 * register_count i.now.decoded) false true)) result }
+    ensures quiet { IsQuiet result }
 {
     store(after(r, i.len), registers_of(r, &i.decoded))
 }
@@ -45,6 +47,7 @@ pub(crate) fn load_multiple<V: View>(r: &Registers, view: &mut V, i: &Instructio
     requires { IsInRange i.now.decoded }
     ensures effect { result ≡ leaves (record (advanced r.now i.now.len) { general = registers_loaded r.now (V.bytes view.old) i.now.decoded }) }
     ensures plain { IsPlain result }
+    ensures quiet { IsQuiet result }
     ensures same { V.bytes view.new ≡ V.bytes view.old }
 {
     let next = after(r, i.len);
@@ -68,6 +71,7 @@ pub(crate) fn insert_character<V: View>(r: &Registers, view: &mut V, i: &Instruc
     requires { IsInRange i.now.decoded }
     ensures effect { result ≡ valued r.now i.now.decoded.r1 i.now.len (insert_character_row (general r.now i.now.decoded.r1) (byte_at_address r.now (V.bytes view.old) (indexed r.now i.now.decoded))) }
     ensures plain { IsPlain result }
+    ensures quiet { IsQuiet result }
     ensures same { V.bytes view.new ≡ V.bytes view.old }
 {
     let d = &i.decoded;
@@ -80,6 +84,7 @@ pub(crate) fn insert_masked<V: View>(r: &Registers, view: &mut V, i: &Instructio
     requires { IsInRange i.now.decoded }
     ensures effect { result ≡ valued r.now i.now.decoded.r1 i.now.len (insert_under_mask_row (general r.now i.now.decoded.r1) i.now.decoded.r2 (bytes_at_address r.now (V.bytes view.old) (second_at r.now i.now.decoded) (masked_len i.now.decoded.r2))) }
     ensures plain { IsPlain result }
+    ensures quiet { IsQuiet result }
     ensures same { V.bytes view.new ≡ V.bytes view.old }
 {
     let d = &i.decoded;
@@ -107,6 +112,7 @@ pub(crate) fn compare_masked<V: View>(r: &Registers, view: &mut V, i: &Instructi
     requires { IsInRange i.now.decoded }
     ensures effect { result ≡ leaves (coded (advanced r.now i.now.len) (compare_under_mask_code (general r.now i.now.decoded.r1) i.now.decoded.r2 (bytes_at_address r.now (V.bytes view.old) (second_at r.now i.now.decoded) (masked_len i.now.decoded.r2)))) }
     ensures plain { IsPlain result }
+    ensures quiet { IsQuiet result }
     ensures same { V.bytes view.new ≡ V.bytes view.old }
 {
     let d = &i.decoded;
@@ -120,6 +126,7 @@ pub(crate) fn store_masked(r: &Registers, i: &Instruction) -> Effect
     requires { IsInRange i.now.decoded }
     ensures effect { result ≡ stores (advanced r.now i.now.len) (selected (general r.now i.now.decoded.r1) i.now.decoded.r2) }
     ensures covers { Covers (one_of (whole_of (second_at r.now i.now.decoded) (length (places i.now.decoded.r2)) false true)) result }
+    ensures quiet { IsQuiet result }
 {
     let d = &i.decoded;
     store(after(r, i.len), selected_of(general_of(r, d.r1), d.r2))
@@ -162,6 +169,7 @@ pub(crate) fn test_mask<V: View>(r: &Registers, view: &mut V, i: &Instruction) -
     requires { IsInRange i.now.decoded }
     ensures effect { result ≡ leaves (coded (advanced r.now i.now.len) (test_under_mask_code (byte_at_address r.now (V.bytes view.old) (first_at r.now i.now.decoded)) (i.now.decoded.imm % 2 ^ 8))) }
     ensures plain { IsPlain result }
+    ensures quiet { IsQuiet result }
     ensures same { V.bytes view.new ≡ V.bytes view.old }
 {
     let code = test_under_mask(first_byte_of(r, view, i), immediate_of(i));
@@ -173,6 +181,7 @@ pub(crate) fn move_immediate(r: &Registers, i: &Instruction) -> Effect
     requires { IsInRange i.now.decoded }
     ensures effect { result ≡ stores (advanced r.now i.now.len) (i.now.decoded.imm % 2 ^ 8 ∷ []) }
     ensures covers { Covers (one_of (whole_of (first_at r.now i.now.decoded) 1 false true)) result }
+    ensures quiet { IsQuiet result }
 {
     store(after(r, i.len), one_byte(immediate_of(i)))
 }
@@ -210,6 +219,7 @@ pub(crate) fn combine_immediate<V: View>(
     requires known { IsTrue (lists opcode logicals) }
     ensures effect { result ≡ stores (coded (advanced r.now i.now.len) (bits_code (combined (opcode + 0x40) (byte_at_address r.now (V.bytes view.old) (first_at r.now i.now.decoded)) (i.now.decoded.imm % 2 ^ 8)))) (combined (opcode + 0x40) (byte_at_address r.now (V.bytes view.old) (first_at r.now i.now.decoded)) (i.now.decoded.imm % 2 ^ 8) ∷ []) }
     ensures covers { Covers (one_of (whole_of (first_at r.now i.now.decoded) 1 true true)) result }
+    ensures quiet { IsQuiet result }
     ensures same { V.bytes view.new ≡ V.bytes view.old }
 {
     let byte = combine(opcode, first_byte_of(r, view, i), immediate_of(i));
@@ -221,6 +231,7 @@ pub(crate) fn compare_immediate<V: View>(r: &Registers, view: &mut V, i: &Instru
     requires { IsInRange i.now.decoded }
     ensures effect { result ≡ leaves (coded (advanced r.now i.now.len) (order_of_bytes (byte_at_address r.now (V.bytes view.old) (first_at r.now i.now.decoded) ∷ []) (i.now.decoded.imm % 2 ^ 8 ∷ []))) }
     ensures plain { IsPlain result }
+    ensures quiet { IsQuiet result }
     ensures same { V.bytes view.new ≡ V.bytes view.old }
 {
     let code = order_of(&[first_byte_of(r, view, i)], &[immediate_of(i)]);
@@ -232,6 +243,7 @@ pub(crate) fn test_and_set<V: View>(r: &Registers, view: &mut V, i: &Instruction
     requires { IsInRange i.now.decoded }
     ensures effect { result ≡ stores (coded (advanced r.now i.now.len) (byte_at_address r.now (V.bytes view.old) (second_at r.now i.now.decoded) / 128)) (0xFF ∷ []) }
     ensures covers { Covers (one_of (whole_of (second_at r.now i.now.decoded) 1 true true)) result }
+    ensures quiet { IsQuiet result }
     ensures same { V.bytes view.new ≡ V.bytes view.old }
 {
     let byte = byte_at(r, view, second_of(r, &i.decoded) as u64);

@@ -4,7 +4,7 @@ ghost use Rattle.std.specs.Prelude.{◌≡◌, ◌≤◌, true, IsTrue};
 ghost use Rattle.esa_model.specs.Access.{whole as whole_of};
 ghost use Rattle.esa_model.specs.Line.{lists, one as one_of};
 ghost use Rattle.esa_model.specs.Rows.Stores.{opcodes, stores_line};
-ghost use Rattle.row_frame.specs.Made.{inputs, IsInRange, Fits, Covers};
+ghost use Rattle.row_frame.specs.Made.{inputs, IsInRange, Fits, Covers, IsQuiet};
 
 use crate::masks::{masked_count, selected_count};
 use crate::one_operand::*;
@@ -99,6 +99,7 @@ pub fn effect_of<V: View>(
     requires order { (stores_line opcode).in_order (inputs r.now cpu.0 (V.bytes view.old) side.now i.now) ≡ true }
     ensures effect { result ≡ (stores_line opcode).effect (inputs r.now cpu.0 (V.bytes view.old) side.now i.now) }
     ensures covers { Covers ((stores_line opcode).operands (inputs r.now cpu.0 (V.bytes view.old) side.now i.now)) result }
+    ensures quiet { IsQuiet result }
     ensures same { V.bytes view.new ≡ V.bytes view.old }
 {
     match opcode {

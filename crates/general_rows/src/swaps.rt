@@ -5,7 +5,7 @@ ghost use Rattle.byteorder.specs.Endian.{big_bytes};
 ghost use Rattle.esa_model.specs.Access.{whole as whole_of};
 ghost use Rattle.esa_model.specs.Line.{general, leaves, one as one_of, second_at, stores, with_pair, with_value, word_at};
 ghost use Rattle.esa_model.specs.MaskRows.{compare_and_swap_row, compare_double_and_swap_row};
-ghost use Rattle.row_frame.specs.Made.{IsInRange, Fits};
+ghost use Rattle.row_frame.specs.Made.{IsInRange, Fits, IsQuiet};
 
 use crate::registers::{pair_bytes, word_bytes};
 use abs_storage::View;
@@ -124,6 +124,7 @@ pub(crate) fn swap<V: View>(r: &Registers, view: &mut V, i: &Instruction) -> Eff
     ensures short { length result.stored ≤ 4 }
     ensures none { result.console_out ≡ [] }
     ensures kind { result.kind < 3 }
+    ensures quiet { IsQuiet result }
     ensures same { V.bytes view.new ≡ V.bytes view.old }
 {
     let d = &i.decoded;
@@ -145,6 +146,7 @@ pub(crate) fn pair_swap<V: View>(r: &Registers, view: &mut V, i: &Instruction) -
     ensures short { length result.stored ≤ 8 }
     ensures none { result.console_out ≡ [] }
     ensures kind { result.kind < 3 }
+    ensures quiet { IsQuiet result }
     ensures same { V.bytes view.new ≡ V.bytes view.old }
 {
     let d = &i.decoded;

@@ -5,9 +5,8 @@ ghost use Rattle.esa_model.specs.Access.{whole as whole_of};
 ghost use Rattle.esa_model.specs.Line.{general, half_at, indexed, lists, one as one_of, pair_valued, second_at, valued, word_at};
 ghost use Rattle.esa_model.specs.WordRows.{half_row, plain, rr_row, shift_row};
 ghost use Rattle.esa_model.specs.Rows.Words.{addresses, halves_at, immediate_row, immediates, opcodes, pair_shifts, pairs, pairs_at, shifts, word_row, words, words_at, words_line};
-ghost use Rattle.row_frame.specs.Made.{inputs, IsInRange, IsPlain, Fits, Covers};
+ghost use Rattle.row_frame.specs.Made.{inputs, IsInRange, IsPlain, Fits, Covers, IsQuiet};
 
-use crate::opcodes::has;
 use crate::values::{half_value, plain_value, rr_value, shift_value};
 use crate::word_names::*;
 use abs_storage::View;
@@ -16,8 +15,8 @@ use esa_model::machine::{CpuNo, Registers};
 use operand_access::{Operands, whole};
 use result_packet::Side;
 use row_frame::{
-    Effect, Instruction, general_of, half_of, indexed_of, leave, no_operands, one, pair_value,
-    second_of, value, word_of,
+    Effect, Instruction, general_of, half_of, indexed_of, is_listed, leave, no_operands, one,
+    pair_value, second_of, value, word_of,
 };
 
 const WORDS: [u16; 15] = [
@@ -50,6 +49,7 @@ fn by_words(opcode: u16, r: &Registers, i: &Instruction) -> Effect
     requires known { IsTrue (lists opcode words) }
     ensures effect { result ≡ valued r.now i.now.decoded.r1 i.now.len (rr_row (word_row opcode) (general r.now i.now.decoded.r1) 0 (general r.now i.now.decoded.r2)) }
     ensures plain { IsPlain result }
+    ensures quiet { IsQuiet result }
 {
     let d = &i.decoded;
     let v = rr_value(
@@ -68,6 +68,7 @@ fn by_pairs(opcode: u16, r: &Registers, i: &Instruction) -> Effect
     requires even { i.now.decoded.r1 + 1 < 16 }
     ensures effect { result ≡ pair_valued r.now i.now.decoded.r1 i.now.len (rr_row opcode (general r.now i.now.decoded.r1) (general r.now (i.now.decoded.r1 + 1)) (general r.now i.now.decoded.r2)) }
     ensures plain { IsPlain result }
+    ensures quiet { IsQuiet result }
 {
     let d = &i.decoded;
     let low = general_of(r, d.r1 + 1);
@@ -86,6 +87,7 @@ fn by_words_at<V: View>(opcode: u16, r: &Registers, view: &mut V, i: &Instructio
     requires known { IsTrue (lists opcode words_at) }
     ensures effect { result ≡ valued r.now i.now.decoded.r1 i.now.len (rr_row opcode (general r.now i.now.decoded.r1) 0 (word_at r.now (V.bytes view.old) (indexed r.now i.now.decoded))) }
     ensures plain { IsPlain result }
+    ensures quiet { IsQuiet result }
     ensures same { V.bytes view.new ≡ V.bytes view.old }
 {
     let d = &i.decoded;
@@ -101,6 +103,7 @@ fn by_pairs_at<V: View>(opcode: u16, r: &Registers, view: &mut V, i: &Instructio
     requires even { i.now.decoded.r1 + 1 < 16 }
     ensures effect { result ≡ pair_valued r.now i.now.decoded.r1 i.now.len (rr_row opcode (general r.now i.now.decoded.r1) (general r.now (i.now.decoded.r1 + 1)) (word_at r.now (V.bytes view.old) (indexed r.now i.now.decoded))) }
     ensures plain { IsPlain result }
+    ensures quiet { IsQuiet result }
     ensures same { V.bytes view.new ≡ V.bytes view.old }
 {
     let d = &i.decoded;
@@ -116,6 +119,7 @@ fn by_halves_at<V: View>(opcode: u16, r: &Registers, view: &mut V, i: &Instructi
     requires known { IsTrue (lists opcode halves_at) }
     ensures effect { result ≡ valued r.now i.now.decoded.r1 i.now.len (half_row opcode (general r.now i.now.decoded.r1) (half_at r.now (V.bytes view.old) (indexed r.now i.now.decoded))) }
     ensures plain { IsPlain result }
+    ensures quiet { IsQuiet result }
     ensures same { V.bytes view.new ≡ V.bytes view.old }
 {
     let d = &i.decoded;
@@ -130,6 +134,7 @@ fn by_immediates(opcode: u16, r: &Registers, i: &Instruction) -> Effect
     requires known { IsTrue (lists opcode immediates) }
     ensures effect { result ≡ valued r.now i.now.decoded.r1 i.now.len (half_row (immediate_row opcode) (general r.now i.now.decoded.r1) i.now.decoded.imm) }
     ensures plain { IsPlain result }
+    ensures quiet { IsQuiet result }
 {
     let d = &i.decoded;
     let v = half_value(immediate_name(opcode), general_of(r, d.r1), d.imm);
@@ -151,6 +156,7 @@ fn by_shifts(opcode: u16, r: &Registers, i: &Instruction) -> Effect
     requires known { IsTrue (lists opcode shifts) }
     ensures effect { result ≡ valued r.now i.now.decoded.r1 i.now.len (shift_row opcode (general r.now i.now.decoded.r1) 0 (second_at r.now i.now.decoded % 64)) }
     ensures plain { IsPlain result }
+    ensures quiet { IsQuiet result }
 {
     let d = &i.decoded;
     let v = shift_value(shift_name(opcode), general_of(r, d.r1), 0, places_of(r, d));
@@ -164,6 +170,7 @@ fn by_pair_shifts(opcode: u16, r: &Registers, i: &Instruction) -> Effect
     requires even { i.now.decoded.r1 + 1 < 16 }
     ensures effect { result ≡ pair_valued r.now i.now.decoded.r1 i.now.len (shift_row opcode (general r.now i.now.decoded.r1) (general r.now (i.now.decoded.r1 + 1)) (second_at r.now i.now.decoded % 64)) }
     ensures plain { IsPlain result }
+    ensures quiet { IsQuiet result }
 {
     let d = &i.decoded;
     let low = general_of(r, d.r1 + 1);
@@ -181,6 +188,7 @@ fn by_address(r: &Registers, i: &Instruction) -> Effect
     requires fields { IsInRange i.now.decoded }
     ensures effect { result ≡ valued r.now i.now.decoded.r1 i.now.len (plain (indexed r.now i.now.decoded)) }
     ensures plain { IsPlain result }
+    ensures quiet { IsQuiet result }
 {
     let d = &i.decoded;
     value(r, d, i.len, &plain_value(indexed_of(r, d)))
@@ -203,19 +211,22 @@ pub fn in_order<V: View>(
     ensures { result ≡ (words_line opcode).in_order (inputs r.now cpu.0 (V.bytes view.now) side.now i.now) }
 {
     let even = i.decoded.r1 % 2 == 0;
-    if has(&WORDS, opcode) {
+    if is_listed(&WORDS, opcode) {
         true
-    } else if has(&PAIRS, opcode) {
+    } else if is_listed(&PAIRS, opcode) {
         even
-    } else if has(&WORDS_AT, opcode) {
+    } else if is_listed(&WORDS_AT, opcode) {
         true
-    } else if has(&PAIRS_AT, opcode) {
+    } else if is_listed(&PAIRS_AT, opcode) {
         even
-    } else if has(&HALVES_AT, opcode) || has(&IMMEDIATES, opcode) || has(&SHIFTS, opcode) {
+    } else if is_listed(&HALVES_AT, opcode)
+        || is_listed(&IMMEDIATES, opcode)
+        || is_listed(&SHIFTS, opcode)
+    {
         true
-    } else if has(&PAIR_SHIFTS, opcode) {
+    } else if is_listed(&PAIR_SHIFTS, opcode) {
         even
-    } else if has(&ADDRESSES, opcode) {
+    } else if is_listed(&ADDRESSES, opcode) {
         true
     } else {
         true
@@ -249,15 +260,18 @@ pub fn operands<V: View>(
     ensures fits { Fits result }
 {
     let d = &i.decoded;
-    if has(&WORDS, opcode) || has(&PAIRS, opcode) {
+    if is_listed(&WORDS, opcode) || is_listed(&PAIRS, opcode) {
         no_operands()
-    } else if has(&WORDS_AT, opcode) || has(&PAIRS_AT, opcode) {
+    } else if is_listed(&WORDS_AT, opcode) || is_listed(&PAIRS_AT, opcode) {
         fetched(r, d, 4)
-    } else if has(&HALVES_AT, opcode) {
+    } else if is_listed(&HALVES_AT, opcode) {
         fetched(r, d, 2)
-    } else if has(&IMMEDIATES, opcode) || has(&SHIFTS, opcode) || has(&PAIR_SHIFTS, opcode) {
+    } else if is_listed(&IMMEDIATES, opcode)
+        || is_listed(&SHIFTS, opcode)
+        || is_listed(&PAIR_SHIFTS, opcode)
+    {
         no_operands()
-    } else if has(&ADDRESSES, opcode) {
+    } else if is_listed(&ADDRESSES, opcode) {
         no_operands()
     } else {
         no_operands()
@@ -279,25 +293,26 @@ pub fn effect_of<V: View>(
     requires order { (words_line opcode).in_order (inputs r.now cpu.0 (V.bytes view.old) side.now i.now) ≡ true }
     ensures effect { result ≡ (words_line opcode).effect (inputs r.now cpu.0 (V.bytes view.old) side.now i.now) }
     ensures covers { Covers ((words_line opcode).operands (inputs r.now cpu.0 (V.bytes view.old) side.now i.now)) result }
+    ensures quiet { IsQuiet result }
     ensures same { V.bytes view.new ≡ V.bytes view.old }
 {
-    if has(&WORDS, opcode) {
+    if is_listed(&WORDS, opcode) {
         by_words(opcode, r, i)
-    } else if has(&PAIRS, opcode) {
+    } else if is_listed(&PAIRS, opcode) {
         by_pairs(opcode, r, i)
-    } else if has(&WORDS_AT, opcode) {
+    } else if is_listed(&WORDS_AT, opcode) {
         by_words_at(opcode, r, view, i)
-    } else if has(&PAIRS_AT, opcode) {
+    } else if is_listed(&PAIRS_AT, opcode) {
         by_pairs_at(opcode, r, view, i)
-    } else if has(&HALVES_AT, opcode) {
+    } else if is_listed(&HALVES_AT, opcode) {
         by_halves_at(opcode, r, view, i)
-    } else if has(&IMMEDIATES, opcode) {
+    } else if is_listed(&IMMEDIATES, opcode) {
         by_immediates(opcode, r, i)
-    } else if has(&SHIFTS, opcode) {
+    } else if is_listed(&SHIFTS, opcode) {
         by_shifts(opcode, r, i)
-    } else if has(&PAIR_SHIFTS, opcode) {
+    } else if is_listed(&PAIR_SHIFTS, opcode) {
         by_pair_shifts(opcode, r, i)
-    } else if has(&ADDRESSES, opcode) {
+    } else if is_listed(&ADDRESSES, opcode) {
         by_address(r, i)
     } else {
         leave(*r)

@@ -1,13 +1,12 @@
 -- Events that are sound by their kind.
 use Rattle.std.proofs.Common.{◌≡◌, ℕ, ◌<◌, ◌≤◌, List, [], ◌∷◌, length, sym, ap, arith, subst, refl, inl}
-use Rattle.std.specs.Prelude.{◌==◌, true, false, Option, Some, None, is_none}
+use Rattle.std.specs.Prelude.{◌==◌, true, false, Option, None}
 use Rattle.esa_model.specs.declared.machine.Due.{Due}
 use Rattle.esa_model.specs.declared.machine.Due.TheVariants.{Idle, Early, External, Restart, UnitOfOperation}
 use Rattle.esa_model.specs.Bus.{signals_of}
-use Rattle.esa_model.specs.Built.{is_plain, is_unit}
 use Rattle.esa_model.specs.Event.{due}
 use Rattle.esa_model.specs.Unit.{Done}
-use Rattle.esa_model.specs.Machine.{Machine, side_of, done, done_of, due_at}
+use Rattle.esa_model.specs.Machine.{Machine, side_of, done, done_of, due_at, is_unit}
 use Rattle.packet_law.specs.Sound.{IsSound, ReadsConsole}
 
 -- one that stores nothing, reads nothing and sends no order
@@ -24,20 +23,6 @@ silent m i d kind stored none written blocks order =
       blocks = blocks;
       order = inl order;
     }
-
-none_of : (o : Option ℕ) → is_none o ≡ true → o ≡ None
-none_of None h = refl
-none_of (Some x) h = absurd (grind (arith, h))
-
-empty_of : (xs : List ℕ) → (length xs == 0) ≡ true → xs ≡ []
-empty_of [] h = refl
-empty_of (x ∷ xs) h = absurd (grind (arith, h))
-
-pub plain : (m : Machine) (i : ℕ) (d : Done) → is_plain d ≡ true → length d.console_out ≤ 256 → length d.blocks ≤ 8 → IsSound m i d
-unfolding is_plain
-plain m i d h written blocks =
-    let kind : d.kind ≡ 0 = grind (arith, h) in
-    silent m i d (omega (arith, kind)) (empty_of d.stored (grind (arith, h))) (none_of d.console_in (grind (arith, h))) written blocks (grind (arith, h))
 
 by_due : (m : Machine) (i : ℕ) (q : Due) → is_unit q ≡ false → IsSound m i (done_of (m.registers i) i m.storage (side_of m) q)
 by_due m i Idle h = silent m i _ (omega arith) refl refl (omega arith) (omega arith) refl

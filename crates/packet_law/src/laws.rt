@@ -1,7 +1,6 @@
 ghost use Rattle.std.specs.Prelude.{◌≡◌, ◌≤◌, ℕ, List, true, false, length};
-ghost use Rattle.esa_model.specs.Built.{is_plain, is_unit};
 ghost use Rattle.esa_model.specs.Unit.{Done, exception, performed};
-ghost use Rattle.esa_model.specs.Machine.{Machine, after, done, due_at, next, side_of};
+ghost use Rattle.esa_model.specs.Machine.{Machine, after, done, due_at, is_unit, next, side_of};
 ghost use Rattle.esa_model.specs.Packet.{Fields, fields, packet, packet_of, read};
 ghost use Rattle.esa_model.specs.Apply.{apply};
 ghost use Rattle.packet_law.specs.Fine.{IsFine};
@@ -22,12 +21,10 @@ pub fn fields_fit()
     ensures { (m : Machine) (i : ℕ) (d : Done) → IsSound m i d → HasWidths d m.storage → IsFine (fields (m.registers i) d m.storage) }
 {}
 
-/// Events that are sound by their kind: one that neither interrupts, stores, reads the console input, sets a
-/// key, takes a request nor sends an order; and each that is due and is no unit of operation, which is idle,
-/// an early exception, an external interruption or a restart.
-pub fn sound_by_kind()
-    ensures plain { (m : Machine) (i : ℕ) (d : Done) → is_plain d ≡ true → length d.console_out ≤ 256 → length d.blocks ≤ 8 → IsSound m i d }
-    ensures interruption { (m : Machine) (i : ℕ) → is_unit (due_at m i) ≡ false → IsSound m i (done (m.registers i) i m.storage (side_of m)) }
+/// An event that is due and is no unit of operation is sound: idle, an early exception, an external
+/// interruption or a restart.
+pub fn sound_interruptions()
+    ensures { (m : Machine) (i : ℕ) → is_unit (due_at m i) ≡ false → IsSound m i (done (m.registers i) i m.storage (side_of m)) }
 {}
 
 /// A row is sound, be it suppressed or completed, where its operands and its effect, if it completes, are

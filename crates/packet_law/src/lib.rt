@@ -6,6 +6,6 @@ mod laws;
 mod tests;
 mod typed;
 
-pub use laws::{applied_is_next, fields_fit, reads_back, sound_by_kind, sound_rows};
+pub use laws::{applied_is_next, fields_fit, reads_back, sound_interruptions, sound_rows};
 pub use result_packet::{Fields, Packet};
 pub use typed::told;

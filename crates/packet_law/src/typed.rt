@@ -80,6 +80,7 @@ fn fine(f: &Fields)
 pub fn told(f: &Fields) -> Packet
     ensures packet { result ≡ packet_of f.now }
     ensures fields { read result ≡ f.now }
+    ensures fine { IsFine f.now }
 {
     reads_back();
     fine(f);

@@ -1,5 +1,4 @@
-ghost use Rattle.std.specs.Prelude.{◌≡◌, ◌≤◌, ◌<◌, ◌+◌, ◌++◌, ◌==◌, ◌||◌, if◌then◌else◌, [], ℕ, List, length, take, drop};
-ghost use Rattle.std.specs.Int.{w32, to_be_bytes};
+ghost use Rattle.std.specs.Prelude.{◌≡◌, ◌≤◌, ◌<◌, ◌+◌, ℕ, List, length, take, drop};
 ghost use Rattle.esa_model.specs.Access.{written};
 ghost use Rattle.esa_model.specs.Bus.{taken};
 ghost use Rattle.esa_model.specs.SigpAnswers.{after_order};
@@ -7,18 +6,20 @@ ghost use Rattle.esa_model.specs.Machine.{changed, reference_all, with_key, old_
 ghost use Rattle.esa_model.specs.Places.{old_at, identification_at};
 ghost use Rattle.esa_model.specs.Packet.{read};
 ghost use Rattle.esa_model.specs.Apply.{piece, piece_keys, first_bytes, second_bytes, swap, told_blocks, applied_storage, applied_keys, console_in, console_out};
-ghost use Rattle.esa_model.specs.Trace.{changed_bytes};
+ghost use Rattle.esa_model.specs.Trace.{changed_bytes, stretches};
 ghost use Rattle.result_packet.specs.Changes.{Tells};
 
 use crate::change_log::ChangeLog;
 use crate::fields::blocks_at;
 use crate::stores::{store_from, store_piece};
+use crate::swap_bytes::{identification_bytes, old_psw_bytes};
 use crate::taken::{console_bytes, console_taken, take_request};
 use crate::{Packet, Side, Written, registers_of};
 use abs_storage::AbsStorage;
 use arrayvec::ArrayVec;
 use esa_model::changes::Changed;
-use esa_model::machine::{CpuNo, Psw, Registers};
+use esa_model::machine::{CpuNo, Registers};
+use psw_interrupts::swap_of;
 use storage_keys::Keys;
 
 fn reference(keys: &mut Keys, blocks: &[u16])
@@ -104,59 +105,6 @@ fn kind_of(p: &Packet) -> u8
     if kind < 5 { kind } else { 0 }
 }
 
-/// Where the old PSW of a kind is stored.
-fn old_place(kind: u8) -> u32
-    ensures { result ≡ old_at kind }
-{
-    if kind == 1 {
-        40
-    } else if kind == 2 {
-        32
-    } else if kind == 3 {
-        24
-    } else {
-        8
-    }
-}
-
-/// Where the identification of a kind is stored.
-fn identification_place(kind: u8) -> u32
-    ensures { result ≡ identification_at kind }
-{
-    if kind == 1 {
-        140
-    } else if kind == 2 {
-        136
-    } else if kind == 3 {
-        132
-    } else {
-        0
-    }
-}
-
-/// The old PSW as bytes, none where nothing interrupts.
-fn old_psw_bytes(kind: u8, old: Psw) -> ArrayVec<u8, 8>
-    ensures bytes { result.items ≡ (if kind == 0 then [] else to_be_bytes w32 old.w0 ++ to_be_bytes w32 old.w1) }
-{
-    let mut list = ArrayVec::new();
-    if kind != 0 {
-        let _ = list.try_extend_from_slice(&old.w0.to_be_bytes());
-        let _ = list.try_extend_from_slice(&old.w1.to_be_bytes());
-    }
-    list
-}
-
-/// The identification as bytes, none where the kind has none.
-fn identification_list(kind: u8, identification: u32) -> ArrayVec<u8, 4>
-    ensures bytes { result.items ≡ (if kind == 0 || kind == 4 then [] else to_be_bytes w32 identification) }
-{
-    let mut list = ArrayVec::new();
-    if kind != 0 && kind != 4 {
-        let _ = list.try_extend_from_slice(&identification.to_be_bytes());
-    }
-    list
-}
-
 /// Stores the old PSW and the identification.
 #[tactic(auto, unfolding(esa_model::specs::Packet::read))]
 fn store_swap(
@@ -172,16 +120,17 @@ fn store_swap(
     ensures log { (olds : List ℕ) → Tells 0 olds storage.old log.old → Tells 0 olds storage.new log.new }
 {
     let kind = kind_of(p);
+    let places = swap_of(kind);
     let old = old_psw_bytes(kind, p.old_psw());
-    store_from(r, storage, keys, log, old_place(kind), old.as_slice());
-    let identification = identification_list(kind, p.identification());
+    store_from(r, storage, keys, log, places.old_at as u32, old.as_slice());
+    let own = identification_bytes(kind, p.identification());
     store_from(
         r,
         storage,
         keys,
         log,
-        identification_place(kind),
-        identification.as_slice(),
+        places.identification as u32,
+        own.as_slice(),
     );
 }
 
@@ -235,6 +184,7 @@ impl Packet {
         ensures console { side.new.console ≡ drop (console_in (read self.now) (length side.old.console)) side.old.console }
         ensures written { result.console.items ≡ console_out (read self.now) }
         ensures changed { result.changed.items ≡ changed_bytes storage.old storage.new }
+        ensures stretches { length (stretches result.changed.items) ≤ 135 }
     {
         let changed = store_told(self, r, storage, &mut side.keys);
         set_told_key(self, &mut side.keys);

@@ -11,6 +11,7 @@ mod packet;
 mod packet_fields;
 mod side;
 mod stores;
+mod swap_bytes;
 mod taken;
 mod written;
 
@@ -21,6 +22,7 @@ pub use latches::{FetchLatch, StoreLatch};
 pub use laws::{fields_stand_apart, latches_tell_one_bit};
 pub use packet::Packet;
 pub use side::Side;
+pub use swap_bytes::{identification_bytes, old_psw_bytes};
 pub use written::Written;
 
 #[cfg(test)]

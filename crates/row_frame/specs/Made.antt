@@ -1,5 +1,5 @@
 -- What the frame wants of the operands and the effect of a row.
-use Rattle.std.specs.Prelude.{◌≡◌, ◌⊎◌, ℕ, ◌<◌, ◌≤◌, List, [], Bool, true, false, length}
+use Rattle.std.specs.Prelude.{◌≡◌, ◌⊎◌, ℕ, ◌<◌, ◌≤◌, List, [], Bool, true, false, None, length}
 use Rattle.std.specs.List.{range_with_len}
 use Rattle.esa_model.specs.declared.machine.Registers.{Registers}
 use Rattle.esa_model.specs.declared.instructions.Decoded.{Decoded}
@@ -28,3 +28,8 @@ pub record IsPlain (e : Effect) : Type 0 where
   pub stored : e.stored ≡ []
   pub console_out : e.console_out ≡ []
   pub kind : e.kind < 3
+
+-- an effect that reads no console input and sends no order: control rows alone have another
+pub record IsQuiet (e : Effect) : Type 0 where
+  pub console_in : e.console_in ≡ None
+  pub order : e.order ≡ 0

@@ -1,7 +1,7 @@
 // What an operation does.
 ghost use Rattle.std.specs.Prelude.{◌≡◌, ◌+◌, ◌<◌};
 ghost use Rattle.esa_model.specs.Line.{ended, interrupts_after, leaves, pair_valued, stores, valued, with_pair, with_value};
-ghost use Rattle.row_frame.specs.Made.{IsPlain};
+ghost use Rattle.row_frame.specs.Made.{IsPlain, IsQuiet};
 
 use crate::addresses::{after, psw_coded};
 use arrayvec::ArrayVec;
@@ -118,6 +118,7 @@ fn interrupts(p: Psw, fault: u8) -> bool
 fn end(registers: Registers, interrupts: bool, fault: u8) -> Effect
     ensures effect { result ≡ ended registers interrupts fault }
     ensures plain { IsPlain result }
+    ensures quiet { IsQuiet result }
 {
     let is_late = fault == 8 || fault == 10;
     let interrupts = is_late && interrupts;
@@ -143,6 +144,7 @@ pub fn value(r: &Registers, d: &Decoded, len: u8, v: &Value) -> Effect
     requires code { v.now.cc < 5 }
     ensures effect { result ≡ valued r.now d.now.r1 len v.now }
     ensures plain { IsPlain result }
+    ensures quiet { IsQuiet result }
 {
     end(put_value(r, d, len, v), interrupts(r.psw, v.fault), v.fault)
 }
@@ -154,6 +156,7 @@ pub fn pair_value(r: &Registers, d: &Decoded, len: u8, v: &Value) -> Effect
     requires code { v.now.cc < 5 }
     ensures effect { result ≡ pair_valued r.now d.now.r1 len v.now }
     ensures plain { IsPlain result }
+    ensures quiet { IsQuiet result }
 {
     end(put_pair(r, d, len, v), interrupts(r.psw, v.fault), v.fault)
 }

@@ -5,6 +5,7 @@ mod addresses;
 mod bytes;
 mod effect;
 mod instruction;
+mod lists;
 mod operands;
 
 pub use addresses::{
@@ -13,4 +14,5 @@ pub use addresses::{
 pub use bytes::{bytes_of, half_of, listed, word_of};
 pub use effect::{Effect, leave, pair_value, store, value, write};
 pub use instruction::Instruction;
+pub use lists::is_listed;
 pub use operands::{no_operands, one, two};

@@ -1,5 +1,5 @@
 -- Condition codes of decimal rows, and lengths of ranges.
-use Rattle.std.proofs.Common.{◌≡◌, ℕ, ◌+◌, ◌<◌, Bool, true, false, List, length, arith}
+use Rattle.std.proofs.Common.{◌≡◌, ℕ, ◌<◌, Bool, true, false, List, length, arith}
 use Rattle.std.specs.Prelude.{if◌then◌else◌, ℤ, ◌==◌, ◌&&◌, nat_le, int_lt, pos, negsuc, unsigned_abs, ◌+ℤ◌, ◌-ℤ◌}
 use Rattle.std.specs.Int.{is_negative, int_rem_euclid}
 use Rattle.esa_model.specs.declared.machine.Value.{Value}

@@ -1,9 +1,9 @@
 -- A unit of a long operation has at most 256 bytes, and its condition code is below 5.
-use Rattle.std.proofs.Common.{◌≡◌, ℕ, ◌+◌, ◌-◌, ◌<◌, ◌≤◌, Bool, true, false, List, arith}
+use Rattle.std.proofs.Common.{ℕ, ◌+◌, ◌-◌, ◌<◌, ◌≤◌, Bool, true, false, List, arith}
 use Rattle.std.specs.Prelude.{if◌then◌else◌, ◌==◌, nat_lt, nat_le, min, max, Option, Some, None, IfSome}
 use Rattle.esa_model.specs.declared.long_operands.LongOperands.{LongOperands}
 use Rattle.esa_model.specs.declared.long_operands.MoveUnit.{MoveUnit}
-use Rattle.esa_model.specs.LongMoves.{is_destructive, length_code, move_row, places, first_byte, second_byte, same_places, unit_code, compare_row}
+use Rattle.esa_model.specs.LongMoves.{is_destructive, length_code, move_row, places, first_byte, second_byte, same_places, compare_row}
 
 number : (b : Bool) (x y : ℕ) → x < 5 → y < 5 → (if b then x else y) < 5
 number true x y p q = p

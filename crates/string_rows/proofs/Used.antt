@@ -1,5 +1,5 @@
 -- An edit uses no more source bytes than its pattern has.
-use Rattle.std.proofs.Common.{◌≡◌, ℕ, ◌+◌, ◌-◌, ◌/◌, ◌%◌, ◌<◌, ◌≤◌, Bool, true, false, List, [], ◌∷◌, length, arith}
+use Rattle.std.proofs.Common.{ℕ, ◌+◌, ◌-◌, ◌/◌, ◌%◌, ◌<◌, ◌≤◌, Bool, true, false, List, [], ◌∷◌, length, arith}
 use Rattle.std.specs.Prelude.{if◌then◌else◌, ◌==◌, ◌&&◌, ◌||◌, not, nat_lt, slice_index, fold, Some, None}
 use Rattle.esa_model.specs.declared.decimals.Editing.{Editing}
 use Rattle.esa_model.specs.declared.decimals.SourceDigit.{SourceDigit}

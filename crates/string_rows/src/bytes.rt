@@ -3,15 +3,14 @@
 ghost use Rattle.std.specs.Prelude.{◌≡◌, true};
 ghost use Rattle.esa_model.specs.Line.{lists as lists_opcode};
 ghost use Rattle.esa_model.specs.Rows.Bytes.{bytes_line, moves as move_opcodes};
-ghost use Rattle.row_frame.specs.Made.{inputs, IsInRange, Fits, Covers};
+ghost use Rattle.row_frame.specs.Made.{inputs, IsInRange, Fits, Covers, IsQuiet};
 
-use crate::lists::has;
 use crate::{long, moves, strings, table_tests};
 use abs_storage::View;
 use esa_model::machine::{CpuNo, Registers};
 use operand_access::Operands;
 use result_packet::Side;
-use row_frame::{Effect, Instruction, leave, no_operands};
+use row_frame::{Effect, Instruction, is_listed, leave, no_operands};
 
 /// MVN, MVC, MVZ, NC, OC and XC.
 const MOVES: [u16; 6] = [0xD1, 0xD2, 0xD3, 0xD4, 0xD6, 0xD7];
@@ -19,7 +18,7 @@ const MOVES: [u16; 6] = [0xD1, 0xD2, 0xD3, 0xD4, 0xD6, 0xD7];
 fn is_move(opcode: u16) -> bool
     ensures { result ≡ lists_opcode opcode move_opcodes }
 {
-    has(&MOVES, opcode)
+    is_listed(&MOVES, opcode)
 }
 
 /// Whether the register numbers of a long row are even.
@@ -94,6 +93,7 @@ pub fn effect_of<V: View>(
     requires order { (bytes_line opcode).in_order (inputs r.now cpu.0 (V.bytes view.old) side.now i.now) ≡ true }
     ensures effect { result ≡ (bytes_line opcode).effect (inputs r.now cpu.0 (V.bytes view.old) side.now i.now) }
     ensures covers { Covers ((bytes_line opcode).operands (inputs r.now cpu.0 (V.bytes view.old) side.now i.now)) result }
+    ensures quiet { IsQuiet result }
     ensures same { V.bytes view.new ≡ V.bytes view.old }
 {
     if is_move(opcode) {

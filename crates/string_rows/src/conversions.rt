@@ -2,7 +2,7 @@
 ghost use Rattle.std.specs.Prelude.{◌≡◌, ◌<◌};
 ghost use Rattle.esa_model.specs.DecimalRows.{to_binary};
 ghost use Rattle.esa_model.specs.Rows.Decimals.{to_binary_line, to_decimal_line};
-ghost use Rattle.row_frame.specs.Made.{inputs, IsInRange, Fits, Covers};
+ghost use Rattle.row_frame.specs.Made.{inputs, IsInRange, Fits, Covers, IsQuiet};
 
 use abs_storage::View;
 use decimal_instr::{cvb, cvd};
@@ -60,6 +60,7 @@ pub(crate) fn binary_effect<V: View>(
     requires fields { IsInRange i.now.decoded }
     ensures effect { result ≡ to_binary_line.effect (inputs r.now cpu.0 (V.bytes view.old) side.now i.now) }
     ensures covers { Covers (to_binary_line.operands (inputs r.now cpu.0 (V.bytes view.old) side.now i.now)) result }
+    ensures quiet { IsQuiet result }
     ensures same { V.bytes view.new ≡ V.bytes view.old }
 {
     let d = &i.decoded;
@@ -79,6 +80,7 @@ pub(crate) fn decimal_effect<V: View>(
     requires fields { IsInRange i.now.decoded }
     ensures effect { result ≡ to_decimal_line.effect (inputs r.now cpu.0 (V.bytes view.old) side.now i.now) }
     ensures covers { Covers (to_decimal_line.operands (inputs r.now cpu.0 (V.bytes view.old) side.now i.now)) result }
+    ensures quiet { IsQuiet result }
     ensures same { V.bytes view.new ≡ V.bytes view.old }
 {
     store(after(r, i.len), listed(&cvd(general_of(r, i.decoded.r1))))

@@ -2,17 +2,16 @@
 ghost use Rattle.std.specs.Prelude.{◌≡◌};
 ghost use Rattle.esa_model.specs.Line.{lists as lists_opcode};
 ghost use Rattle.esa_model.specs.Rows.Decimals.{decimals_line, edits as edit_opcodes, fields as field_opcodes};
-ghost use Rattle.row_frame.specs.Made.{inputs, IsInRange, Fits, Covers};
+ghost use Rattle.row_frame.specs.Made.{inputs, IsInRange, Fits, Covers, IsQuiet};
 
 use crate::conversions::{binary_effect, binary_operands, decimal_effect, decimal_operands};
 use crate::edits::{edit_effect, edit_operands};
 use crate::fields::{field_effect, field_operands, lengths_fit, shift_effect, shift_operands};
-use crate::lists::has;
 use abs_storage::View;
 use esa_model::machine::{CpuNo, Registers};
 use operand_access::Operands;
 use result_packet::Side;
-use row_frame::{Effect, Instruction, leave, no_operands};
+use row_frame::{Effect, Instruction, is_listed, leave, no_operands};
 
 /// MVO, PACK, UNPK, ZAP, CP, AP, SP, MP and DP.
 const FIELDS: [u16; 9] = [0xF1, 0xF2, 0xF3, 0xF8, 0xF9, 0xFA, 0xFB, 0xFC, 0xFD];
@@ -23,13 +22,13 @@ const EDITS: [u16; 2] = [0xDE, 0xDF];
 fn is_field(opcode: u16) -> bool
     ensures { result ≡ lists_opcode opcode field_opcodes }
 {
-    has(&FIELDS, opcode)
+    is_listed(&FIELDS, opcode)
 }
 
 fn is_edit(opcode: u16) -> bool
     ensures { result ≡ lists_opcode opcode edit_opcodes }
 {
-    has(&EDITS, opcode)
+    is_listed(&EDITS, opcode)
 }
 
 /// Whether the length codes are in order.
@@ -96,6 +95,7 @@ pub fn effect_of<V: View>(
     requires fields { IsInRange i.now.decoded }
     ensures effect { result ≡ (decimals_line opcode).effect (inputs r.now cpu.0 (V.bytes view.old) side.now i.now) }
     ensures covers { Covers ((decimals_line opcode).operands (inputs r.now cpu.0 (V.bytes view.old) side.now i.now)) result }
+    ensures quiet { IsQuiet result }
     ensures same { V.bytes view.new ≡ V.bytes view.old }
 {
     if is_field(opcode) {

@@ -3,7 +3,7 @@ ghost use Rattle.std.specs.Prelude.{◌≡◌, ◌≤◌, ◌<◌, ◌==◌, ◌
 ghost use Rattle.esa_model.specs.Edit.{answer, edited_pattern, state};
 ghost use Rattle.esa_model.specs.Line.{advanced, coded, leaves, stores};
 ghost use Rattle.esa_model.specs.Rows.Decimals.{edit_line, with_mark as marked_by};
-ghost use Rattle.row_frame.specs.Made.{inputs, IsInRange, Fits, Covers};
+ghost use Rattle.row_frame.specs.Made.{inputs, IsInRange, Fits, Covers, IsQuiet};
 
 use crate::registers::{address_marked, with_condition};
 use abs_storage::View;
@@ -77,6 +77,7 @@ fn edit_end(op: u16, r: &Registers, len: u8, at: u32, e: &Edited, pattern: &[u8]
     ensures short { length result.stored ≤ length pattern.now }
     ensures console { result.console_out ≡ [] }
     ensures kind { result.kind < 3 }
+    ensures quiet { IsQuiet result }
 {
     if e.fault == 0 {
         return store(
@@ -108,6 +109,7 @@ pub(crate) fn edit_effect<V: View>(
     requires fields { IsInRange i.now.decoded }
     ensures effect { result ≡ (edit_line op).effect (inputs r.now cpu.0 (V.bytes view.old) side.now i.now) }
     ensures covers { Covers ((edit_line op).operands (inputs r.now cpu.0 (V.bytes view.old) side.now i.now)) result }
+    ensures quiet { IsQuiet result }
     ensures same { V.bytes view.new ≡ V.bytes view.old }
 {
     let d = &i.decoded;

@@ -3,7 +3,7 @@ ghost use Rattle.std.specs.Prelude.{◌≡◌, ◌≤◌, ◌<◌, ◌==◌, ◌
 ghost use Rattle.esa_model.specs.DecimalRows.{Leaves, shift_row as shifted_row, two_row};
 ghost use Rattle.esa_model.specs.Line.{advanced, coded, ended, interrupts_after, lists as lists_opcode};
 ghost use Rattle.esa_model.specs.Rows.Decimals.{field_line, fields as field_opcodes, shift_line};
-ghost use Rattle.row_frame.specs.Made.{inputs, IsInRange, Fits, Covers};
+ghost use Rattle.row_frame.specs.Made.{inputs, IsInRange, Fits, Covers, IsQuiet};
 
 use abs_storage::View;
 use arrayvec::ArrayVec;
@@ -27,6 +27,7 @@ fn end(registers: Registers, interrupts: bool, fault: u8, stored: ArrayVec<u8, 2
     ensures short { length result.stored ≡ length stored.items }
     ensures console { result.console_out ≡ [] }
     ensures kind { result.kind < 3 }
+    ensures quiet { IsQuiet result }
 {
     let is_late = fault == 8 || fault == 10;
     let interrupts = is_late && interrupts;
@@ -52,6 +53,7 @@ fn decimal_end(r: &Registers, len: u8, v: &Value, stored: ArrayVec<u8, 256>) -> 
     ensures short { length result.stored ≡ length stored.items }
     ensures console { result.console_out ≡ [] }
     ensures kind { result.kind < 3 }
+    ensures quiet { IsQuiet result }
 {
     end(
         after_coded(r, len, v.cc),
@@ -140,6 +142,7 @@ pub(crate) fn field_effect<V: View>(
     requires row { IsTrue (lists_opcode op field_opcodes) }
     ensures effect { result ≡ (field_line op).effect (inputs r.now cpu.0 (V.bytes view.old) side.now i.now) }
     ensures covers { Covers ((field_line op).operands (inputs r.now cpu.0 (V.bytes view.old) side.now i.now)) result }
+    ensures quiet { IsQuiet result }
     ensures same { V.bytes view.new ≡ V.bytes view.old }
 {
     let d = &i.decoded;
@@ -178,6 +181,7 @@ pub(crate) fn shift_effect<V: View>(
     requires fields { IsInRange i.now.decoded }
     ensures effect { result ≡ shift_line.effect (inputs r.now cpu.0 (V.bytes view.old) side.now i.now) }
     ensures covers { Covers (shift_line.operands (inputs r.now cpu.0 (V.bytes view.old) side.now i.now)) result }
+    ensures quiet { IsQuiet result }
     ensures same { V.bytes view.new ≡ V.bytes view.old }
 {
     let d = &i.decoded;

@@ -6,9 +6,10 @@ mod conversions;
 pub mod decimals;
 mod edits;
 mod fields;
-mod lists;
 mod long;
 mod moves;
 mod registers;
 mod strings;
 mod table_tests;
+#[cfg(test)]
+mod tests;

@@ -4,7 +4,7 @@ ghost use Rattle.esa_model.specs.Line.{general};
 ghost use Rattle.esa_model.specs.LongMoves.{after_unit, compare_row, long_operands, move_row, wrap as wrap_of};
 ghost use Rattle.esa_model.specs.Psw.{is_wide, wrapped};
 ghost use Rattle.esa_model.specs.Rows.Bytes.{compare_long_line, ended_by, first_len, move_long_line, second_len};
-ghost use Rattle.row_frame.specs.Made.{inputs, Fits, Covers};
+ghost use Rattle.row_frame.specs.Made.{inputs, Fits, Covers, IsQuiet};
 
 use crate::registers::stored;
 use abs_storage::View;
@@ -169,6 +169,7 @@ pub(crate) fn move_effect<V: View>(
     requires second { i.now.decoded.r2 + 1 < 16 }
     ensures effect { result ≡ move_long_line.effect (inputs r.now cpu.0 (V.bytes view.old) side.now i.now) }
     ensures covers { Covers (move_long_line.operands (inputs r.now cpu.0 (V.bytes view.old) side.now i.now)) result }
+    ensures quiet { IsQuiet result }
     ensures same { V.bytes view.new ≡ V.bytes view.old }
 {
     let d = &i.decoded;
@@ -248,6 +249,7 @@ pub(crate) fn compare_effect<V: View>(
     requires second { i.now.decoded.r2 + 1 < 16 }
     ensures effect { result ≡ compare_long_line.effect (inputs r.now cpu.0 (V.bytes view.old) side.now i.now) }
     ensures covers { Covers (compare_long_line.operands (inputs r.now cpu.0 (V.bytes view.old) side.now i.now)) result }
+    ensures quiet { IsQuiet result }
     ensures same { V.bytes view.new ≡ V.bytes view.old }
 {
     let d = &i.decoded;

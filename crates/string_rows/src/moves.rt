@@ -4,7 +4,7 @@ ghost use Rattle.std.specs.List.{list_all};
 ghost use Rattle.esa_model.specs.Access.{byte, written};
 ghost use Rattle.esa_model.specs.Moves.{combined, is_zero, move_code};
 ghost use Rattle.esa_model.specs.Rows.Bytes.{move_line, moved, moved_byte, translate_line, translated, used_of};
-ghost use Rattle.row_frame.specs.Made.{inputs, IsInRange, Fits, Covers};
+ghost use Rattle.row_frame.specs.Made.{inputs, IsInRange, Fits, Covers, IsQuiet};
 
 use crate::registers::stored;
 use abs_storage::View;
@@ -125,6 +125,7 @@ pub(crate) fn move_effect<V: View>(
     requires fields { IsInRange i.now.decoded }
     ensures effect { result ≡ (move_line op).effect (inputs r.now cpu.0 (V.bytes view.old) side.now i.now) }
     ensures covers { Covers ((move_line op).operands (inputs r.now cpu.0 (V.bytes view.old) side.now i.now)) result }
+    ensures quiet { IsQuiet result }
     ensures same { V.bytes view.new ≡ V.bytes view.old }
 {
     let d = &i.decoded;
@@ -226,6 +227,7 @@ pub(crate) fn translate_effect<V: View>(
     requires fields { IsInRange i.now.decoded }
     ensures effect { result ≡ translate_line.effect (inputs r.now cpu.0 (V.bytes view.old) side.now i.now) }
     ensures covers { Covers (translate_line.operands (inputs r.now cpu.0 (V.bytes view.old) side.now i.now)) result }
+    ensures quiet { IsQuiet result }
     ensures same { V.bytes view.new ≡ V.bytes view.old }
 {
     let d = &i.decoded;

@@ -1,6 +1,7 @@
 // Registers as these rows put them, and effects that store bytes.
 ghost use Rattle.std.specs.Prelude.{◌≡◌, ◌<◌, [], length};
 ghost use Rattle.esa_model.specs.Line.{coded, marked, stores};
+ghost use Rattle.row_frame.specs.Made.{IsQuiet};
 
 use arrayvec::ArrayVec;
 use esa_model::machine::Registers;
@@ -38,6 +39,7 @@ pub(crate) fn stored(registers: Registers, bytes: ArrayVec<u8, 256>) -> Effect
     ensures short { length result.stored ≡ length bytes.items }
     ensures console { result.console_out ≡ [] }
     ensures kind { result.kind < 3 }
+    ensures quiet { IsQuiet result }
 {
     store(registers, bytes)
 }

@@ -5,7 +5,7 @@ ghost use Rattle.esa_model.specs.Moves.{compare_code};
 ghost use Rattle.esa_model.specs.Psw.{wrapped};
 ghost use Rattle.esa_model.specs.Line.{second_at};
 ghost use Rattle.esa_model.specs.Rows.Bytes.{compare_line, move_inverse_line};
-ghost use Rattle.row_frame.specs.Made.{inputs, IsInRange, Fits, Covers};
+ghost use Rattle.row_frame.specs.Made.{inputs, IsInRange, Fits, Covers, IsQuiet};
 
 use crate::registers::stored;
 use abs_storage::View;
@@ -63,6 +63,7 @@ pub(crate) fn compare_effect<V: View>(
     requires fields { IsInRange i.now.decoded }
     ensures effect { result ≡ compare_line.effect (inputs r.now cpu.0 (V.bytes view.old) side.now i.now) }
     ensures covers { Covers (compare_line.operands (inputs r.now cpu.0 (V.bytes view.old) side.now i.now)) result }
+    ensures quiet { IsQuiet result }
     ensures same { V.bytes view.new ≡ V.bytes view.old }
 {
     let d = &i.decoded;
@@ -126,6 +127,7 @@ pub(crate) fn inverse_effect<V: View>(
     requires fields { IsInRange i.now.decoded }
     ensures effect { result ≡ move_inverse_line.effect (inputs r.now cpu.0 (V.bytes view.old) side.now i.now) }
     ensures covers { Covers (move_inverse_line.operands (inputs r.now cpu.0 (V.bytes view.old) side.now i.now)) result }
+    ensures quiet { IsQuiet result }
     ensures same { V.bytes view.new ≡ V.bytes view.old }
 {
     let d = &i.decoded;

@@ -3,7 +3,7 @@ ghost use Rattle.std.specs.Prelude.{◌≡◌, ◌≤◌, ◌<◌, ◌+◌, IfSo
 ghost use Rattle.esa_model.specs.Access.{bytes as bytes_at};
 ghost use Rattle.esa_model.specs.Moves.{hit_code, hit_of};
 ghost use Rattle.esa_model.specs.Rows.Bytes.{hit_registers, translate_and_test_line, used_by};
-ghost use Rattle.row_frame.specs.Made.{inputs, IsInRange, Fits, Covers};
+ghost use Rattle.row_frame.specs.Made.{inputs, IsInRange, Fits, Covers, IsQuiet};
 
 use crate::moves::used_at;
 use crate::registers::{address_marked, with_condition};
@@ -131,6 +131,7 @@ pub(crate) fn test_effect<V: View>(
     requires fields { IsInRange i.now.decoded }
     ensures effect { result ≡ translate_and_test_line.effect (inputs r.now cpu.0 (V.bytes view.old) side.now i.now) }
     ensures covers { Covers (translate_and_test_line.operands (inputs r.now cpu.0 (V.bytes view.old) side.now i.now)) result }
+    ensures quiet { IsQuiet result }
     ensures same { V.bytes view.new ≡ V.bytes view.old }
 {
     let d = &i.decoded;

@@ -1,6 +1,6 @@
 // What an event does.
-ghost use Rattle.std.specs.Prelude.{◌≡◌, ◌+◌, ◌*◌, ◌^◌, ◌≤◌, ◌==◌, if◌then◌else◌, false, length};
-ghost use Rattle.esa_model.specs.Built.{is_plain};
+ghost use Rattle.std.specs.Prelude.{◌≡◌, ◌+◌, ◌*◌, ◌^◌, ◌≤◌, ◌==◌, if◌then◌else◌, length};
+ghost use Rattle.esa_model.specs.Access.{referenced};
 ghost use Rattle.esa_model.specs.Unit.{carried, interrupted, suppressed};
 ghost use Rattle.operand_access.specs.Seen.{AreInside};
 
@@ -12,14 +12,15 @@ use std::marker::Model;
 
 /// What an event does, as far as the PSW that an interruption stores.
 #[derive(Drop)]
-pub struct Done {
+pub(crate) struct Done {
     pub registers: Registers,
     /// The effective address at which the stored bytes begin.
     pub to: u32,
     pub stored: ArrayVec<u8, 256>,
     pub console_out: ArrayVec<u8, 256>,
     pub console_in: Option<u16>,
-    /// The blocks of 4,096 bytes that are referenced, each once, in the order of first access.
+    /// The blocks of 4,096 bytes that are referenced, each once: those of the instruction, of the target of EX,
+    /// of the first operand, of the second operand.
     pub blocks: ArrayVec<u16, 8>,
     /// The block whose key is set, or X'FFFF'.
     pub block: u16,
@@ -36,7 +37,6 @@ pub struct Done {
 }
 
 impl Model for Done {
-    ghost use Rattle.esa_model.specs.Built.{is_plain};
     ghost use Rattle.esa_model.specs.Unit.{Done as Deed};
 
     ghost Value = { Deed };
@@ -45,7 +45,7 @@ impl Model for Done {
 }
 
 /// An interruption and nothing else.
-pub fn interrupt(
+pub(crate) fn interrupt(
     registers: Registers,
     kind: u8,
     identification: u32,
@@ -72,10 +72,9 @@ pub fn interrupt(
 }
 
 /// A unit of `len` bytes that a program exception suppresses.
-#[tactic(auto, unfolding(esa_model::specs::Unit::suppressed, esa_model::specs::Built::is_plain))]
-pub fn suppress(r: &Registers, len: u8, code: u8, blocks: ArrayVec<u16, 8>) -> Done
+#[tactic(auto, unfolding(esa_model::specs::Unit::suppressed))]
+pub(crate) fn suppress(r: &Registers, len: u8, code: u8, blocks: ArrayVec<u16, 8>) -> Done
     ensures done { result ≡ suppressed r.now len code blocks.items }
-    ensures interrupts { is_plain result ≡ false }
 {
     interrupt(
         after(r, len),
@@ -98,10 +97,17 @@ fn identified(kind: u8, len: u8, code: u8) -> u32
 
 /// An effect that nothing suppresses.
 #[tactic(auto, unfolding(esa_model::specs::Unit::carried))]
-pub fn carry(r: &Registers, len: u8, os: &Operands, e: Effect, mut blocks: ArrayVec<u16, 8>) -> Done
+pub(crate) fn carry(
+    r: &Registers,
+    len: u8,
+    os: &Operands,
+    e: Effect,
+    mut blocks: ArrayVec<u16, 8>,
+) -> Done
     requires inside { AreInside r.now (2 ^ 24) os.now }
     requires room { length blocks.items ≤ 4 }
-    ensures { result ≡ carried r.now len os.now e blocks.items }
+    ensures done { result ≡ carried r.now len os.now e blocks.items }
+    ensures few { length (referenced r.now os.now blocks.items) ≤ 8 }
 {
     note_operands(r, os, &mut blocks);
     Done {

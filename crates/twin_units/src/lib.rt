@@ -1,12 +1,18 @@
-//! Units of operation: what the event that is due does, over any row of the tables.
+//! Units of operation over any row of the tables, the latch and the packet of the event that is due.
 #![tactic(auto)]
 
-mod diagnose;
+mod classes;
+mod computing;
 mod done;
 mod exceptions;
+mod interruptions;
+mod latching;
 mod operation;
 mod rows;
-mod words;
+mod telling;
 
-pub use done::Done;
-pub use operation::unit;
+pub use computing::compute;
+pub use latching::latch;
+
+#[cfg(test)]
+mod tests;

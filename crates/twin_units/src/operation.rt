@@ -1,49 +1,39 @@
-// One unit of operation: the fetch of its instruction, and the instruction.
-ghost use Rattle.std.specs.Prelude.{◌≡◌, ℕ, ◌≤◌, ◌^◌, ◌==◌, ◌&&◌, true, false, List, [], if◌then◌else◌, IfSome, length, slice_index, ◌/◌, ◌%◌, ◌<◌};
-ghost use Rattle.esa_model.specs.Access.{whole as whole_of};
-ghost use Rattle.esa_model.specs.Built.{built_opcodes, has_row, has_row_for, has_rows, is_plain, is_unit_built};
-ghost use Rattle.esa_model.specs.Line.{lists, part};
-ghost use Rattle.esa_model.specs.Psw.{address};
-ghost use Rattle.esa_model.specs.Table.{decoded};
-ghost use Rattle.esa_model.specs.Unit.{executed, fetched, fetched_blocks, fetch_code, fetch_len, instructed, modified, target_of, unit as unit_of};
+// One unit of operation, from the bytes of its instruction.
+ghost use Rattle.std.specs.Prelude.{◌≡◌, ℕ, ◌≤◌, ◌<◌, ◌^◌, ◌%◌, List, [], Some, true, false, length};
+ghost use Rattle.esa_model.specs.Access.{codes, noted_of, whole as whole_of};
+ghost use Rattle.esa_model.specs.Line.{part};
+ghost use Rattle.esa_model.specs.Machine.{Machine};
+ghost use Rattle.esa_model.specs.Table.{length_of, row_at, row_numbered};
+ghost use Rattle.esa_model.specs.Unit.{executed, instructed, modified, target_of};
+ghost use Rattle.esa_model.specs.Word.{first_code};
 ghost use Rattle.operand_access.specs.Seen.{memory, IsInside};
-ghost use Rattle.twin_units.specs.Units.{is_made};
+ghost use Rattle.packet_law.specs.Sound.{IsSound};
+ghost use Rattle.twin_units.specs.Units.{IsAt, unit_of_bytes};
 
-use crate::done::{Done, suppress};
-use crate::exceptions::perform;
+use crate::done::Done;
+use crate::exceptions::{perform, stop};
 use abs_storage::View;
 use arrayvec::ArrayVec;
+use esa_model::instructions::{Decoded, Row};
 use esa_model::machine::{CpuNo, Registers};
 use esa_table::{decode, row};
-use operand_access::{effective, instruction, note_operand, whole};
+use operand_access::{effective, instruction, note_operand, operand_code, whole};
 use result_packet::Side;
 use row_frame::Instruction;
 use storage_keys::Keys;
 
-/// The opcodes of the rows that are built.
-const BUILT: [u16; 5] = [0x07, 0x18, 0x1A, 0x41, 0x83];
-
-/// Whether a list has an opcode.
-fn has(opcodes: &[u16], opcode: u16) -> bool
-    ensures { result ≡ lists opcode opcodes.now }
+/// The row of an instruction of the table.
+fn row_of(d: &Decoded) -> Row
+    requires { row_at d.now.row ≡ Some (row_numbered d.now.row) }
+    ensures { result ≡ row_numbered d.now.row }
 {
-    for o in opcodes {
-        if *o == opcode {
-            return true;
-        }
+    match row(d.row) {
+        Some(row) => row,
+        None => unreachable!(),
     }
-    false
 }
 
-/// Whether the row of an opcode is built.
-#[tactic(auto, unfolding(esa_model::specs::Built::has_row))]
-fn is_built(opcode: u16) -> bool
-    ensures { result ≡ has_row opcode }
-{
-    has(&BUILT, opcode)
-}
-
-/// What the six bytes of an instruction do; none where its row is not built.
+/// What the six bytes of an instruction do.
 #[tactic(auto, unfolding(esa_model::specs::Unit::instructed))]
 fn instruct<V: View>(
     r: &Registers,
@@ -54,56 +44,18 @@ fn instruct<V: View>(
     own: u32,
     len: u8,
     blocks: ArrayVec<u16, 8>,
-) -> Option<Done>
+) -> Done
     requires { length blocks.items ≤ 4 }
-    ensures done { IfSome result (λ d. d ≡ instructed r.now cpu.0 (V.bytes view.old) side.now bytes.now own len blocks.items) }
-    ensures made { is_made result ≡ (is_plain (instructed r.now cpu.0 (V.bytes view.old) side.now bytes.now own len blocks.items) && has_row_for (decoded bytes.now)) }
+    ensures done { result ≡ instructed r.now cpu.0 (V.bytes view.old) side.now bytes.now own len blocks.items }
+    ensures sound { (m : Machine) → IsAt m cpu.0 r.now (V.bytes view.old) side.now → IsSound m cpu.0 result }
     ensures same { V.bytes view.new ≡ V.bytes view.old }
 {
     let Some(decoded) = decode(bytes) else {
-        return Some(suppress(r, len, 1, blocks));
+        return stop(r, len, 1, blocks);
     };
-    let Some(row) = row(decoded.row) else {
-        return None;
-    };
-    if !is_built(row.opcode) {
-        return None;
-    }
+    let row = row_of(&decoded);
     let i = Instruction { decoded, own, len };
-    Some(perform(&row, r, cpu, view, side, &i, blocks))
-}
-
-/// The length that the identification of a refused fetch tells: 2 where the first halfword was refused.
-fn length_told(len: u8) -> u8
-    ensures { result ≡ (if len == 0 then 2 else len) }
-{
-    if len == 0 { 2 } else { len }
-}
-
-/// The blocks of an instruction.
-#[tactic(auto, unfolding(esa_model::specs::Unit::fetched_blocks))]
-fn blocks_of(r: &Registers, keys: &Keys, at: u32, len: u8) -> ArrayVec<u16, 8>
-    requires short { len ≤ 6 }
-    requires inside { IsInside r.now (2 ^ 24) (whole_of at len true false) }
-    ensures blocks { (storage : List ℕ) → len ≡ fetch_len r.now (memory storage keys.now) at → result.items ≡ fetched_blocks r.now (memory storage keys.now) at [] }
-    ensures few { length result.items ≤ 2 }
-{
-    let mut blocks = ArrayVec::new();
-    note_operand(r, &whole(at, len as u32, true, false), &mut blocks);
-    blocks
-}
-
-/// Whether the row of an instruction is built.
-fn has_row_of(bytes: &[u8; 6]) -> bool
-    ensures { result ≡ has_row_for (decoded bytes.now) }
-{
-    let Some(decoded) = decode(bytes) else {
-        return false;
-    };
-    match row(decoded.row) {
-        Some(row) => is_built(row.opcode),
-        None => false,
-    }
+    perform(&row, r, cpu, view, side, &i, blocks)
 }
 
 /// The address of the target of EX, from its bytes.
@@ -145,46 +97,89 @@ fn execute<V: View>(
     side: &Side,
     bytes: &[u8; 6],
     mut blocks: ArrayVec<u16, 8>,
-) -> Option<Done>
+) -> Done
     requires { length blocks.items ≤ 2 }
-    ensures done { IfSome result (λ d. d ≡ executed r.now cpu.0 (V.bytes view.old) side.now bytes.now blocks.items) }
-    ensures made { is_made result ≡ (is_plain (executed r.now cpu.0 (V.bytes view.old) side.now bytes.now blocks.items) && has_row_for (decoded (modified r.now (slice_index bytes.now 1 / 16) (fetched r.now (memory (V.bytes view.old) side.now.keys) (target_of r.now bytes.now))))) }
+    ensures done { result ≡ executed r.now cpu.0 (V.bytes view.old) side.now bytes.now blocks.items }
+    ensures sound { (m : Machine) → IsAt m cpu.0 r.now (V.bytes view.old) side.now → IsSound m cpu.0 result }
     ensures same { V.bytes view.new ≡ V.bytes view.old }
 {
+    // Its clause bounds the storage, so that the numbers of blocks fit in 16 bits.
     let _size = view.size();
     let at = target_at(r, bytes);
     let target = instruction(r, &side.keys, view, at);
     if target.fault != 0 {
-        return Some(suppress(r, 4, target.fault, blocks));
+        return stop(r, 4, target.fault, blocks);
     }
     note_operand(r, &whole(at, target.len as u32, true, false), &mut blocks);
     if target.bytes[0] == 0x44 {
-        return Some(suppress(r, 4, 3, blocks));
+        return stop(r, 4, 3, blocks);
     }
     let modified = modify(r, bytes[1] / 16, &target.bytes);
     instruct(r, cpu, view, side, &modified, at, 4, blocks)
 }
 
-/// One unit of operation of a CPU; none where the program has not its row so far.
-#[tactic(auto, unfolding(esa_model::specs::Unit::unit, esa_model::specs::Built::is_unit_built, esa_model::specs::Built::has_rows))]
-pub fn unit<V: View>(r: &Registers, cpu: CpuNo, view: &mut V, side: &Side) -> Option<Done>
-    ensures done { IfSome result (λ d. d ≡ unit_of r.now cpu.0 (V.bytes view.old) side.now) }
-    ensures built { is_made result ≡ is_unit_built r.now cpu.0 (V.bytes view.old) side.now }
+/// The length of an instruction in bytes, by its first byte.
+pub(crate) fn length_by(first: u8) -> u8
+    ensures len { result ≡ length_of first }
+    ensures short { result ≤ 6 }
+{
+    if first < 64 {
+        2
+    } else if first < 192 {
+        4
+    } else {
+        6
+    }
+}
+
+/// Why the bytes of an instruction may not be fetched, or 0; then all are inside the greatest storage.
+fn code_of<V: View>(r: &Registers, keys: &Keys, view: &V, at: u32, len: u8) -> u8
+    requires short { len ≤ 6 }
+    ensures code { result ≡ first_code (codes r.now (memory (V.bytes view.now) keys.now) (whole_of at len true false)) }
+    ensures inside { result ≡ 0 → IsInside r.now (2 ^ 24) (whole_of at len true false) }
+{
+    // Its clause bounds the storage, so that the numbers of blocks fit in 16 bits.
+    let _size = view.size();
+    operand_code(r, keys, view, &whole(at, len as u32, true, false))
+}
+
+/// The blocks of an instruction.
+fn blocks_of(r: &Registers, at: u32, len: u8) -> ArrayVec<u16, 8>
+    requires short { len ≤ 6 }
+    requires inside { IsInside r.now (2 ^ 24) (whole_of at len true false) }
+    ensures blocks { result.items ≡ noted_of r.now (whole_of at len true false) [] }
+    ensures few { length result.items ≤ 2 }
+{
+    let mut blocks = ArrayVec::new();
+    note_operand(r, &whole(at, len as u32, true, false), &mut blocks);
+    blocks
+}
+
+/// The unit of operation of six bytes that are said to stand at the instruction address. Where they were fetched
+/// there it is the unit that is due; any others give a sound unit too, a suppressed one where as many bytes may
+/// not be fetched there.
+#[tactic(auto, unfolding(crate::specs::Units::unit_of_bytes))]
+pub(crate) fn unit_from<V: View>(
+    bytes: &[u8; 6],
+    r: &Registers,
+    cpu: CpuNo,
+    view: &mut V,
+    side: &Side,
+) -> Done
+    ensures done { result ≡ unit_of_bytes r.now cpu.0 (V.bytes view.old) side.now bytes.now }
+    ensures sound { (m : Machine) → IsAt m cpu.0 r.now (V.bytes view.old) side.now → IsSound m cpu.0 result }
     ensures same { V.bytes view.new ≡ V.bytes view.old }
 {
-    let _size = view.size();
     let at = r.psw.w1 % 0x8000_0000;
-    let fetched = instruction(r, &side.keys, view, at);
-    if fetched.fault != 0 {
-        let len = length_told(fetched.len);
-        return Some(suppress(r, len, fetched.fault, ArrayVec::new()));
+    let len = length_by(bytes[0]);
+    let code = code_of(r, &side.keys, view, at, len);
+    if code != 0 {
+        return stop(r, len, code, ArrayVec::new());
     }
-    let blocks = blocks_of(r, &side.keys, at, fetched.len);
-    if fetched.bytes[0] == 0x44 {
-        if !has_row_of(&fetched.bytes) {
-            return None;
-        }
-        return execute(r, cpu, view, side, &fetched.bytes, blocks);
+    let blocks = blocks_of(r, at, len);
+    if bytes[0] == 0x44 {
+        execute(r, cpu, view, side, bytes, blocks)
+    } else {
+        instruct(r, cpu, view, side, bytes, at, len, blocks)
     }
-    instruct(r, cpu, view, side, &fetched.bytes, at, fetched.len, blocks)
 }

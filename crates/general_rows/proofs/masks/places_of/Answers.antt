@@ -1,4 +1,4 @@
-use Rattle.std.proofs.Common.{◌≡◌, ℕ, ◌∙◌, ap, arith}
+use Rattle.std.proofs.Common.{◌≡◌, ◌∙◌, ap, arith}
 use Rattle.general_rows.proofs.Selected.{places_all, places_below}
 use Rattle.general_rows.proofs.masks.places_of.Goals as goal
 

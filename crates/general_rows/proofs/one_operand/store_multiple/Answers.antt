@@ -1,5 +1,5 @@
 -- STM stores as many bytes as its operand has.
-use Rattle.std.proofs.Common.{◌≡◌, ◌*◌, false, true, refl, sym, subst, inr, arith}
+use Rattle.std.proofs.Common.{◌*◌, false, true, refl, sym, subst, inr, arith}
 use Rattle.std.proofs.lemmas.List.FromFn.{length-range_with_len}
 use Rattle.esa_model.specs.Access.{whole}
 use Rattle.esa_model.specs.Line.{Effect, one, second_at}

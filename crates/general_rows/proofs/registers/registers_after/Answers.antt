@@ -1,4 +1,4 @@
-use Rattle.std.proofs.Common.{◌+◌, length, arith}
+use Rattle.std.proofs.Common.{arith}
 use Rattle.std.proofs.lemmas.List.FromFn.{fill_by_all}
 use Rattle.esa_model.specs.Rows.Stores.{loaded, registers_loaded}
 use Rattle.general_rows.proofs.registers.registers_after.Goals as goal

@@ -1,16 +1,28 @@
--- A turn gives what its event makes of the state.
-use Rattle.std.proofs.Common.{refl, ◌∙◌}
-use Rattle.g5_machine.proofs.Step.{none_gives, some_gives}
+-- A turn gives what the event that is due makes of the state.
+use Rattle.std.proofs.Common.{refl, sym, ◌∙◌}
+use Rattle.g5_machine.proofs.Standing.{stands_same, stands_idle}
+use Rattle.g5_machine.proofs.TurnSteps.{turn_idle, turn_not_yet, turn_committed}
 use Rattle.g5_machine.proofs.machine.Machine.turn.Goals as goal
 
-pub returns-in-None-clause-turn : goal.returns-in-None-clause-turn
-returns-in-None-clause-turn c = λ m of.
-    none_gives c.args.self.now.registers c.args.self.now.storage c.args.self.now.side m c.args.cpu.0 _ c.not_yet.result c.requires of
-    c.in-None.ensures.event refl c.event_of.ensures.same refl
-    c.not_yet.ensures.outcome c.not_yet.ensures.psw c.not_yet.ensures.changed c.not_yet.ensures.console
+pub returns-then-is_idle-clause-turn : goal.returns-then-is_idle-clause-turn
+returns-then-is_idle-clause-turn c = λ model made of.
+    turn_idle c.args.self.now _ model made c.args.cpu.0 c.registers_at-r.result c.event_due-event.result c.without_commit.result
+    (record { of = of; known = c.requires.known; own = c.registers_at-r.ensures }) c.event_due-event.ensures (sym c.is_idle.ensures ∙ c.if-is_idle.true)
+    (stands_idle c.args.self.now _ model made of refl refl refl c.add_turn.ensures.counts c.add_turn.ensures.counted)
+    c.without_commit.ensures.nothing c.without_commit.ensures.outcome
 
-pub returns-in-Some-clause-turn : goal.returns-in-Some-clause-turn
-returns-in-Some-clause-turn c = λ m of.
-    some_gives c.args.self.now.registers c.args.self.now.storage c.args.self.now.side m c.args.cpu.0 c.commit.new.self c.commit.result c.in-Some.d c.requires of
-    c.in-Some.ensures.event c.commit.ensures.registers (c.commit.ensures.storage ∙ c.event_of.ensures.same) c.commit.ensures.side
-    c.commit.ensures.outcome c.commit.ensures.psw c.commit.ensures.changed c.commit.ensures.console
+pub returns-then-is_signal_due-clause-turn : goal.returns-then-is_signal_due-clause-turn
+returns-then-is_signal_due-clause-turn c = λ model made of.
+    turn_not_yet c.args.self.now _ model made c.args.cpu.0 c.registers_at-r.result c.event_due-event.result c.without_commit-then-is_signal_due.result
+    (record { of = of; known = c.requires.known; own = c.registers_at-r.ensures }) c.event_due-event.ensures
+    (sym c.is_signal_due.ensures.signal ∙ c.if-is_signal_due.true)
+    (stands_same c.args.self.now _ model made of refl c.is_signal_due.ensures.same refl refl)
+    c.without_commit-then-is_signal_due.ensures.nothing c.without_commit-then-is_signal_due.ensures.outcome
+
+pub returns-clause-turn : goal.returns-clause-turn
+returns-clause-turn c = λ model made of.
+    turn_committed c.args.self.now _ c.commit.new.self model made c.args.cpu.0 c.registers_at-r.result c.event_due-event.result c.commit.result
+    (record { of = of; known = c.requires.known; own = c.registers_at-r.ensures }) c.event_due-event.ensures
+    (sym c.is_idle.ensures ∙ c.if-is_idle.false) (sym c.is_signal_due.ensures.signal ∙ c.if-is_signal_due.false)
+    (stands_same c.args.self.now _ model made of refl c.is_signal_due.ensures.same refl refl)
+    (c.commit.ensures.commit model made) c.commit.ensures.outcome

@@ -4,6 +4,7 @@ use Rattle.esa_model.specs.Line.{Side}
 use Rattle.esa_model.specs.Packet.{read}
 use Rattle.esa_model.specs.Apply.{applied_keys}
 use Rattle.esa_model.specs.Machine.{with_key}
+use Rattle.result_packet.proofs.RunsStored.{stretches_few}
 use Rattle.result_packet.proofs.packet.Packet.apply.Goals as goal
 
 pub returns-clause-keys : goal.returns-clause-keys
@@ -23,3 +24,8 @@ pub returns-clause-console : goal.returns-clause-console
 returns-clause-console c =
     let same = ap (λ (s : Side). s.console) c.side.view_is in
     rw (c.skip.ensures, c.console_taken-taken.ensures.count, c.left.ensures, same) refl
+
+pub returns-clause-stretches : goal.returns-clause-stretches
+returns-clause-stretches c =
+    stretches_few c.args.r.now c.args.self.now c.args.storage.now c.store_told-changed.new.storage c.store_told-changed.result.items
+    c.store_told-changed.ensures.storage c.store_told-changed.ensures.changed

@@ -1,5 +1,0 @@
-use Rattle.std.proofs.Common.{◌≡◌, take, length}
-use Rattle.twin_units.proofs.diagnose.read_ahead.Given as goal
-
-abbrev pub invariant-loop-k : goal.invariant-loop-k
-invariant-loop-k l = (l.list.items ≡ take l.k l.console) × (length l.list.items ≡ l.k)
