@@ -184,13 +184,13 @@ fn operands_of_rows(rt: HostRuntime) -> Result<(), Fail> {
     Ok(())
 }
 
-/// SSM, LPSW, STNSM, STOSM, SPX (of a page that is there, and of one that is not), STPX and STAP.
+/// SSM, LPSW, STNSM and STOSM.
 #[test]
-fn masks_and_prefixes(rt: HostRuntime) -> Result<(), Fail> {
+fn masks_and_psws(rt: HostRuntime) -> Result<(), Fail> {
     let side = new_side(rt.alloc())?;
     let mut storage = new_storage(rt.alloc())?;
     let r = registers();
-    for (opcode, bytes, w0, w1, last) in [
+    for (opcode, bytes, w0, w1, stored) in [
         (0x80, [0x80, 0, 0x02, 0x00], 0x0108_2000, 0x8000_1004, None),
         (0x82, [0x82, 0, 0x02, 0x00], 0x0108_3000, 0x8000_0400, None),
         (
@@ -207,57 +207,34 @@ fn masks_and_prefixes(rt: HostRuntime) -> Result<(), Fail> {
             0x8000_1004,
             Some(3),
         ),
-        (
-            0xB211,
-            [0xB2, 0x11, 0x02, 0x04],
-            0x0308_2000,
-            0x8000_1004,
-            Some(0),
-        ),
-        (
-            0xB212,
-            [0xB2, 0x12, 0x02, 0x02],
-            0x0308_2000,
-            0x8000_1004,
-            Some(1),
-        ),
     ] {
         let e = effect(opcode, bytes, &r, &mut storage, &side);
         assert_eq!(rt; e.registers.psw, Psw { w0, w1 }, "{bytes:?}");
-        assert_eq!(rt; e.stored.as_slice().last().copied(), last, "{bytes:?}");
-    }
-    for (at, prefix, fault) in [(0x08, 0x1000, 0), (0x0C, 0, 5)] {
-        let e = effect(0xB210, [0xB2, 0x10, 0x02, at], &r, &mut storage, &side);
-        assert_eq!(rt; (e.registers.prefix, e.fault), (prefix, fault));
+        assert_eq!(rt; e.stored.as_slice().first().copied(), stored, "{bytes:?}");
     }
     Ok(())
 }
 
-/// STCTL and LCTL of the registers 14, 15, 0 and 1.
+/// STCTL and LCTL of the registers 14, 15, 0 and 1, SPX of a page that is there and of one that is not, STPX
+/// and STAP: the number of bytes stored and the last of them, control register 0, prefix and program code.
 #[test]
-fn control_registers(rt: HostRuntime) -> Result<(), Fail> {
+fn control_registers_and_prefix(rt: HostRuntime) -> Result<(), Fail> {
     let side = new_side(rt.alloc())?;
     let mut storage = new_storage(rt.alloc())?;
     let r = registers();
-    if let Some(i) = placed([0xB6, 0xE1, 0x02, 0x00]) {
-        let e = effect_of(0xB6, &r, CPU, &mut storage, &side, &i);
-        let words = [0, 0, 0, 0xCE, 0, 0, 0, 0xCF, 0, 0, 0, 0xC0, 0, 0, 0, 0xC1];
-        assert_eq!(rt; e.stored.as_slice(), words.as_slice());
-    }
-    for (n, word) in [
-        (13, 0xCD),
-        (14, 0x0108_3000),
-        (15, 0x8000_0400),
-        (0, 0x8000_1FFF),
-        (1, 0x1122_3344),
-        (2, 0xC2),
+    for (opcode, bytes, len, last, control, prefix, fault) in [
+        (0xB6, [0xB6, 0xE1, 0x02, 0x00], 16, Some(0xC1), 0xC0, 0, 0),
+        (0xB7, [0xB7, 0xE1, 0x02, 0x00], 0, None, 0x8000_1FFF, 0, 0),
+        (0xB210, [0xB2, 0x10, 0x02, 0x08], 0, None, 0xC0, 0x1000, 0),
+        (0xB210, [0xB2, 0x10, 0x02, 0x0C], 0, None, 0xC0, 0, 5),
+        (0xB211, [0xB2, 0x11, 0x02, 0x04], 4, Some(0), 0xC0, 0, 0),
+        (0xB212, [0xB2, 0x12, 0x02, 0x02], 2, Some(1), 0xC0, 0, 0),
     ] {
-        let e = effect(0xB7, [0xB7, 0xE1, 0x02, 0x00], &r, &mut storage, &side);
-        assert_eq!(rt;
-            e.registers.control.get(n).copied(),
-            Some(word),
-            "register {n}"
-        );
+        let e = effect(opcode, bytes, &r, &mut storage, &side);
+        assert_eq!(rt; e.stored.len(), len, "{bytes:?}");
+        assert_eq!(rt; e.stored.as_slice().last().copied(), last, "{bytes:?}");
+        assert_eq!(rt; e.registers.control[0], control, "{bytes:?}");
+        assert_eq!(rt; (e.registers.prefix, e.fault), (prefix, fault), "{bytes:?}");
     }
     Ok(())
 }
