@@ -1,11 +1,12 @@
-ghost use Rattle.std.specs.Prelude.{◌≡◌, ◌≤◌, ◌<◌, ◌+◌, ◌%◌, ℕ, length, min, IfSome, IsNone};
-ghost use Rattle.abs_storage.specs.Places.{place_at, place_in, cut_of, begins_outside as is_begun_outside};
+ghost use Rattle.std.specs.Prelude.{◌≡◌, ◌≤◌, ◌<◌, length, min, IfSome, IsNone};
+ghost use Rattle.abs_storage.specs.Places.{place_at, cut_of, begins_outside as is_begun_outside};
+ghost use Rattle.abs_storage.specs.Places.{HaveBytes, IsInside, HasByteOutside};
 
 use crate::{AbsStorage, absolute};
 
 /// Where the bytes of an operand lie: `first_len` of them from the absolute address `first` on, the
-/// other `second_len` from `second` on. The first piece ends with the page of the first byte; where the
-/// operand lies in that page alone `second` and `second_len` are 0.
+/// other `second_len` from `second` on. The first piece ends with the page of the first byte; where
+/// the operand lies in that page alone `second` and `second_len` are 0.
 #[derive(Clone, Copy, Debug, PartialEq, Eq)]
 pub struct Pieces {
     pub first: u32,
@@ -65,15 +66,16 @@ fn begins_outside(p: Pieces, size: u32) -> bool
 }
 
 impl AbsStorage {
-    /// The pieces of the operand of `len` bytes from a real address on, whose addresses wrap at 2^31
-    /// where `wide`, else at 2^24; `None` exactly where one of its bytes is outside the storage.
+    /// The pieces of the operand of `len` bytes from a real address on, whose addresses wrap at
+    /// 2^31 where `wide`, else at 2^24; `None` exactly where one of its bytes is outside the
+    /// storage.
     pub fn pieces(&self, prefix: u32, real: u32, len: u16, wide: bool) -> Option<Pieces>
         requires some { 0 < len }
         requires most { len ≤ 256 }
         ensures cut { IfSome result (λ p. p ≡ cut_of prefix wide real len) }
-        ensures bytes { IfSome result (λ p. (k : ℕ) → k < len → place_at prefix wide (real + k) ≡ place_in p k) }
-        ensures inside { IfSome result (λ p. (k : ℕ) → k < len → place_at prefix wide (real + k) < length self.now) }
-        ensures outside { IsNone result → (k : ℕ) × (k < len) × (length self.now ≤ place_at prefix wide (real + k)) }
+        ensures bytes { IfSome result (λ p. HaveBytes prefix wide real len p) }
+        ensures inside { IfSome result (λ _. IsInside prefix wide real len (length self.now)) }
+        ensures outside { IsNone result → HasByteOutside prefix wide real len (length self.now) }
     {
         let pieces = cut(prefix, wide, real, len);
         if begins_outside(pieces, self.size()) {

@@ -1,4 +1,5 @@
-ghost use Rattle.std.specs.Prelude.{◌≡◌, ◌≤◌, ◌<◌, ◌*◌, ◌%◌, ℕ, List, length, replicate, slice_get, slice_set, IfOk, IsSome, ◌↔◌};
+ghost use Rattle.std.specs.Prelude.{◌≡◌, ◌≤◌, ◌<◌, ◌*◌, ◌%◌, ℕ, List, length, replicate, slice_get};
+ghost use Rattle.std.specs.Prelude.{slice_set, IfOk, IsSome, ◌↔◌};
 
 use crate::View;
 use esa_model::memory::NoMemory;

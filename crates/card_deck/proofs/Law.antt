@@ -6,20 +6,20 @@ use Rattle.std.proofs.Math.Seq.{take-append_seam}
 use Rattle.std.specs.List.{flat_map, list_all}
 use Rattle.byteorder.specs.Endian.{big_number, big_bytes}
 use Rattle.byteorder.specs.Numbers.{big_from-bytes}
-use Rattle.esa_model.specs.Card.{put, sort_of, sort_code, address_read, extent_read, esd_item, esd_items, esd_next, esd_card, esd_of, txt_of, rld_of, end_of, card_of, esd, txt, rld, blank_address, raw_item, raw_items, rld_raws, rld_items, rld_item, rld_card, rld_filled, omits_next, no_item}
-use Rattle.esa_model.specs.CardWriting.{fits_24, rld_item_fits, rld_size, rld_bytes, flag_of, next_same, extents_fit, esd_item_fits, blank_card, with_data, esd_item_bytes, esd_bytes, txt_bytes, rld_card_bytes, end_bytes, entry_fits}
-use Rattle.esa_model.specs.declared.cards.Card.{Card}
-use Rattle.esa_model.specs.declared.cards.Sort.{Sort}
-use Rattle.esa_model.specs.declared.cards.Sort.TheVariants.{Section, Private, Label, External, Weak}
-use Rattle.esa_model.specs.declared.cards.EsdItem.{EsdItem}
+use Rattle.deck_model.specs.Card.{put, sort_of, sort_code, address_read, extent_read, esd_item, esd_items, esd_next, esd_card, esd_of, txt_of, rld_of, end_of, card_of, esd, txt, rld, blank_address, raw_item, raw_items, rld_raws, rld_items, rld_item, rld_card, rld_filled, omits_next, no_item}
+use Rattle.deck_model.specs.CardWriting.{fits_24, rld_item_fits, rld_size, rld_bytes, flag_of, next_same, extents_fit, esd_item_fits, blank_card, with_data, esd_item_bytes, esd_bytes, txt_bytes, rld_card_bytes, end_bytes, entry_fits}
+use Rattle.deck_model.specs.declared.cards.Card.{Card}
+use Rattle.deck_model.specs.declared.cards.Sort.{Sort}
+use Rattle.deck_model.specs.declared.cards.Sort.TheVariants.{Section, Private, Label, External, Weak}
+use Rattle.deck_model.specs.declared.cards.EsdItem.{EsdItem}
 use Rattle.card_deck.specs.Results.{PointersFit}
 use Rattle.card_deck.proofs.Raws.{raws_next, raws_end}
-use Rattle.esa_model.specs.declared.cards.RldItem.{RldItem}
-use Rattle.esa_model.specs.declared.cards.RawItem.{RawItem}
-use Rattle.esa_model.specs.declared.cards.EntryPoint.{EntryPoint}
-use Rattle.esa_model.specs.declared.cards.CardRefusal.{CardRefusal}
-use Rattle.esa_model.specs.declared.cards.CardRefusal.TheVariants.{BadCount}
-use Rattle.esa_model.specs.declared.cards.Card.TheVariants.{End, Sym}
+use Rattle.deck_model.specs.declared.cards.RldItem.{RldItem}
+use Rattle.deck_model.specs.declared.cards.RawItem.{RawItem}
+use Rattle.deck_model.specs.declared.cards.EntryPoint.{EntryPoint}
+use Rattle.deck_model.specs.declared.cards.CardRefusal.{CardRefusal}
+use Rattle.deck_model.specs.declared.cards.CardRefusal.TheVariants.{BadCount}
+use Rattle.deck_model.specs.declared.cards.Card.TheVariants.{End, Sym}
 
 pub three_read : (v : ℕ) (more : List ℕ) → v < 16777216 → big_number 3 (big_bytes 3 v ++ more) ≡ v
 three_read v more h = big_from-bytes 3 v more ∙ mod-eq_of_lt h

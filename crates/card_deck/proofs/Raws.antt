@@ -1,8 +1,8 @@
 -- Steps over the items of an RLD card.
 use Rattle.std.proofs.Common.{◌≡◌, ◌≢◌, ℕ, zero, suc, ◌+◌, Bool, false, cond, eqb, List, [], ◌∷◌, ◌++◌, length, drop, Some, None, refl, ap, arith}
 use Rattle.std.proofs.lemmas.Bool.Decides.{nat_tests}
-use Rattle.esa_model.specs.declared.cards.RawItem.{RawItem}
-use Rattle.esa_model.specs.Card.{raw_item, raw_items, omits_next}
+use Rattle.deck_model.specs.declared.cards.RawItem.{RawItem}
+use Rattle.deck_model.specs.Card.{raw_item, raw_items, omits_next}
 
 some_left : (bytes : List ℕ) → length bytes ≢ 0 → eqb (length bytes) 0 ≡ false
 some_left bytes h = grind (arith, nat_tests)

@@ -4,10 +4,10 @@ use Rattle.std.proofs.lemmas.Bool.Decides.{nat_tests}
 use Rattle.std.proofs.lemmas.List.{length-map, map-append}
 use Rattle.std.proofs.lemmas.List.Folds.{list_all-append}
 use Rattle.std.specs.List.{list_all}
-use Rattle.esa_model.specs.Card.{raw_item, rld_item, omits_next, short_item, whole_item, no_item}
-use Rattle.esa_model.specs.CardWriting.{rld_item_fits, rld_size, same_pointers}
-use Rattle.esa_model.specs.declared.cards.RawItem.{RawItem}
-use Rattle.esa_model.specs.declared.cards.RldItem.{RldItem}
+use Rattle.deck_model.specs.Card.{raw_item, rld_item, omits_next, short_item, whole_item, no_item}
+use Rattle.deck_model.specs.CardWriting.{rld_item_fits, rld_size, same_pointers}
+use Rattle.deck_model.specs.declared.cards.RawItem.{RawItem}
+use Rattle.deck_model.specs.declared.cards.RldItem.{RldItem}
 use Rattle.card_deck.specs.Results.{RldFit}
 
 size_push : (xs : List RldItem) (o : Bool) (i j : RldItem) → rld_size o (xs ++ i ∷ j ∷ []) ≡ rld_size o (xs ++ i ∷ []) + cond (same_pointers i j) 4 8

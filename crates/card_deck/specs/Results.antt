@@ -1,11 +1,11 @@
--- Lists in answers.
+-- Lists in answers. Source: choice of this project.
 use Rattle.std.specs.Prelude.{◌≡◌, ℕ, ◌<◌, ◌≤◌, true, false, length, List, [], ◌∷◌, Option, Some, None, Result, Ok, Err}
 use Rattle.arrayvec.specs.ArrayVec.{ArrayVec}
 use Rattle.std.specs.List.{list_all}
-use Rattle.esa_model.specs.CardWriting.{esd_item_fits, rld_item_fits, rld_size}
-use Rattle.esa_model.specs.declared.cards.EsdItem.{EsdItem}
-use Rattle.esa_model.specs.declared.cards.RawItem.{RawItem}
-use Rattle.esa_model.specs.declared.cards.RldItem.{RldItem}
+use Rattle.deck_model.specs.CardWriting.{esd_item_fits, rld_item_fits, rld_size}
+use Rattle.deck_model.specs.declared.cards.EsdItem.{EsdItem}
+use Rattle.deck_model.specs.declared.cards.RawItem.{RawItem}
+use Rattle.deck_model.specs.declared.cards.RldItem.{RldItem}
 
 abbrev pub listed : {A : Type 0} → Result (ArrayVec A) ℕ → Result (List A) ℕ
 listed (Ok v) = Ok v.items

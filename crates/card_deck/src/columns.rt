@@ -1,8 +1,8 @@
 //! Numbers and bytes in the columns of a card.
 ghost use Rattle.std.specs.Prelude.{◌≡◌, ◌+◌, ◌<◌, ◌≤◌, length, take, drop, IsTrue};
 ghost use Rattle.byteorder.specs.Endian.{big_bytes};
-ghost use Rattle.esa_model.specs.Card.{number_at, put};
-ghost use Rattle.esa_model.specs.CardWriting.{fits_24};
+ghost use Rattle.deck_model.specs.Card.{number_at, put};
+ghost use Rattle.deck_model.specs.CardWriting.{fits_24};
 
 use byteorder::{BigEndian, ByteOrder};
 
@@ -40,7 +40,7 @@ pub fn first_of(bytes: &[u8], count: usize) -> &[u8]
     &bytes[..count]
 }
 
-#[tactic(auto, unfolding(esa_model::specs::Card::put))]
+#[tactic(auto, unfolding(deck_model::specs::Card::put))]
 pub fn put_at(out: &mut [u8], at: usize, bytes: &[u8])
     requires { at + length bytes.now ≤ length out.old }
     ensures { out.new ≡ put at bytes.now out.old }

@@ -1,9 +1,9 @@
 //! Which cards can be written.
 ghost use Rattle.std.specs.Prelude.{◌≡◌, ◌≤◌, length, false};
 ghost use Rattle.std.specs.List.{list_all};
-ghost use Rattle.esa_model.specs.CardWriting.{card_fits, fits_24, extents_fit, esd_item_fits, rld_item_fits, same_pointers, next_same, rld_size, entry_fits};
+ghost use Rattle.deck_model.specs.CardWriting.{card_fits, fits_24, extents_fit, esd_item_fits, rld_item_fits, same_pointers, next_same, rld_size, entry_fits};
 
-use esa_model::cards::{Card, EntryPoint, EsdItem, RldItem, Sort};
+use deck_model::cards::{Card, EntryPoint, EsdItem, RldItem, Sort};
 
 fn fits_in_24(n: u32) -> bool
     ensures { result ≡ fits_24 n }
@@ -86,8 +86,9 @@ fn does_entry_fit(entry: &Option<EntryPoint>) -> bool
     }
 }
 
-/// Whether a card can be written: its counts are those of its type, its addresses and extents are below
-/// 2^24, a label names an ESDID below 65,536, and an entry's address is not that of three blanks.
+/// Whether a card can be written: its counts are those of its type, its addresses and extents are
+/// below 2^24, a label names an ESDID below 65,536, and an entry's address is not that of three
+/// blanks.
 pub fn fits(card: &Card) -> bool
     ensures { result ≡ card_fits card.now }
 {

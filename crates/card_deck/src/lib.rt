@@ -9,7 +9,7 @@ mod read_rld;
 mod tests;
 mod write;
 
-pub use esa_model::cards::{
+pub use deck_model::cards::{
     Card, CardRefusal, EntryPoint, EsdCard, EsdItem, Kind, RldCard, RldItem, Sort, TxtCard,
 };
 pub use fitting::fits;

@@ -1,14 +1,14 @@
 //! A card read from its columns.
 ghost use Rattle.std.specs.Prelude.{◌≡◌, ◌-◌, ◌*◌, ◌<◌, ◌≤◌, [], length, take, drop, IfOk, IsTrue};
 ghost use Rattle.std.specs.List.{list_all};
-ghost use Rattle.esa_model.specs.Card.{sort_of, address_read, extent_read, esd_item, esd_items, esd_card, esd_of, txt_of, end_of, card_of};
-ghost use Rattle.esa_model.specs.CardWriting.{card_fits, extents_fit, esd_item_fits};
+ghost use Rattle.deck_model.specs.Card.{sort_of, address_read, extent_read, esd_item, esd_items, esd_card, esd_of, txt_of, end_of, card_of};
+ghost use Rattle.deck_model.specs.CardWriting.{card_fits, extents_fit, esd_item_fits};
 ghost use Rattle.card_deck.specs.Results.{listed, EsdFit};
 
 use crate::columns::{data_of, first_of, three_at, two_at};
 use crate::read_rld::rld_in;
 use arrayvec::ArrayVec;
-use esa_model::cards::{Card, CardRefusal, EntryPoint, EsdCard, EsdItem, Kind, Sort, TxtCard};
+use deck_model::cards::{Card, CardRefusal, EntryPoint, EsdCard, EsdItem, Kind, Sort, TxtCard};
 
 fn sort_in(b: u8) -> Option<Sort>
     ensures { result ≡ sort_of b }
@@ -38,7 +38,7 @@ fn fields_in(sort: Sort, bytes: &[u8]) -> (u32, u32)
 }
 
 // An item of an ESD card, or the sort that is none.
-#[tactic(auto, unfolding(esa_model::specs::Card::esd_item))]
+#[tactic(auto, unfolding(deck_model::specs::Card::esd_item))]
 fn esd_item_in(bytes: &[u8]) -> Result<EsdItem, u8>
     requires { 16 ≤ length bytes.now }
     ensures item { result ≡ esd_item bytes.now }
@@ -90,7 +90,7 @@ fn esd_card_of(first_id: u16, items: Result<ArrayVec<EsdItem, 3>, u8>) -> Result
     }
 }
 
-#[tactic(auto, unfolding(esa_model::specs::Card::esd_of))]
+#[tactic(auto, unfolding(deck_model::specs::Card::esd_of))]
 fn esd_in(card: &[u8; 80]) -> Result<Card, CardRefusal>
     ensures card { result ≡ esd_of card.now }
     ensures fits { IfOk result (λ c. IsTrue (card_fits c)) }
@@ -118,7 +118,7 @@ fn bytes_of(from: &[u8], count: usize) -> ArrayVec<u8, 56>
     bytes
 }
 
-#[tactic(auto, unfolding(esa_model::specs::Card::txt_of))]
+#[tactic(auto, unfolding(deck_model::specs::Card::txt_of))]
 fn txt_in(card: &[u8; 80]) -> Result<Card, CardRefusal>
     ensures card { result ≡ txt_of card.now }
     ensures fits { IfOk result (λ c. IsTrue (card_fits c)) }
@@ -135,7 +135,7 @@ fn txt_in(card: &[u8; 80]) -> Result<Card, CardRefusal>
     }))
 }
 
-#[tactic(auto, unfolding(esa_model::specs::Card::end_of))]
+#[tactic(auto, unfolding(deck_model::specs::Card::end_of))]
 fn end_in(card: &[u8; 80]) -> Card
     ensures card { result ≡ end_of card.now }
     ensures fits { IsTrue (card_fits result) }
@@ -150,9 +150,10 @@ fn end_in(card: &[u8; 80]) -> Card
     }))
 }
 
-/// Reads a card from its 80 columns (IBM object deck layout). A refusal is the first of a first byte
-/// other than X'02', an unknown type, a count that the type has not, and what is not supported.
-#[tactic(auto, unfolding(esa_model::specs::Card::card_of))]
+/// Reads a card from its 80 columns (IBM object deck layout). A refusal is the first of a first
+/// byte other than X'02', an unknown type, a count that the type has not, and what is not
+/// supported.
+#[tactic(auto, unfolding(deck_model::specs::Card::card_of))]
 pub fn read_card(card: &[u8; 80]) -> Result<Card, CardRefusal>
     ensures card { result ≡ card_of card.now }
     ensures fits { IfOk result (λ c. IsTrue (card_fits c)) }

@@ -1,12 +1,12 @@
 //! The relocations of an RLD card.
 ghost use Rattle.std.specs.Prelude.{◌≡◌, ◌+◌, ◌<◌, ◌≤◌, [], length, drop, map, IfOk, IfSome, IsTrue, if◌then◌else◌};
-ghost use Rattle.esa_model.specs.Card.{rld_of, whole_item, short_item, raw_item, rld_raws, rld_item, rld_items, rld_card, rld_filled};
-ghost use Rattle.esa_model.specs.CardWriting.{card_fits};
+ghost use Rattle.deck_model.specs.Card.{rld_of, whole_item, short_item, raw_item, rld_raws, rld_item, rld_items, rld_card, rld_filled};
+ghost use Rattle.deck_model.specs.CardWriting.{card_fits};
 ghost use Rattle.card_deck.specs.Results.{listed, raws_listed, RldFit};
 
 use crate::columns::{data_of, first_of, three_at, two_at};
 use arrayvec::ArrayVec;
-use esa_model::cards::{Card, CardRefusal, Kind, RawItem, RldCard, RldItem};
+use deck_model::cards::{Card, CardRefusal, Kind, RawItem, RldCard, RldItem};
 
 fn whole_item_in(bytes: &[u8]) -> RawItem
     requires { 8 ≤ length bytes.now }
@@ -132,7 +132,7 @@ fn rld_filled_of(raws: Option<ArrayVec<RawItem, 13>>) -> Result<Card, CardRefusa
     }
 }
 
-#[tactic(auto, unfolding(esa_model::specs::Card::rld_of))]
+#[tactic(auto, unfolding(deck_model::specs::Card::rld_of))]
 pub fn rld_in(card: &[u8; 80]) -> Result<Card, CardRefusal>
     ensures card { result ≡ rld_of card.now }
     ensures fits { IfOk result (λ c. IsTrue (card_fits c)) }

@@ -2,17 +2,17 @@
 ghost use Rattle.std.specs.Prelude.{◌≡◌, ℕ, All, ◌+◌, ◌<◌, ◌≤◌, ◌∷◌, ◌++◌, length, IsTrue, true, false, if◌then◌else◌};
 ghost use Rattle.std.specs.List.{flat_map, list_all};
 ghost use Rattle.byteorder.specs.Endian.{big_bytes};
-ghost use Rattle.esa_model.specs.Card.{sort_code, card_of, esd, txt, rld};
-ghost use Rattle.esa_model.specs.CardWriting.{card_fits, fits_24, esd_item_fits, rld_item_fits, next_same, rld_size, entry_fits, blank_card, with_data, esd_item_bytes, flag_of, pointer_bytes, rld_bytes, esd_bytes, txt_bytes, rld_card_bytes, end_bytes, card_bytes};
+ghost use Rattle.deck_model.specs.Card.{sort_code, card_of, esd, txt, rld};
+ghost use Rattle.deck_model.specs.CardWriting.{card_fits, fits_24, esd_item_fits, rld_item_fits, next_same, rld_size, entry_fits, blank_card, with_data, esd_item_bytes, flag_of, pointer_bytes, rld_bytes, esd_bytes, txt_bytes, rld_card_bytes, end_bytes, card_bytes};
 ghost use Rattle.card_deck.specs.Results.{PointersFit};
 
 use crate::columns::{put_at, three_bytes, two_bytes};
 use crate::fitting::is_next_same;
 use arrayvec::ArrayVec;
-use esa_model::cards::{Card, EntryPoint, EsdItem, RldItem, Sort};
+use deck_model::cards::{Card, EntryPoint, EsdItem, RldItem, Sort};
 
 // A card of a type, blank but for its first four columns and its identification.
-#[tactic(auto, unfolding(esa_model::specs::CardWriting::blank_card))]
+#[tactic(auto, unfolding(deck_model::specs::CardWriting::blank_card))]
 fn blank_card_of(kind: u32, sequence: &[u8; 8]) -> [u8; 80]
     requires { IsTrue (fits_24 kind) }
     ensures { result ≡ blank_card kind sequence.now }
@@ -24,7 +24,7 @@ fn blank_card_of(kind: u32, sequence: &[u8; 8]) -> [u8; 80]
     card
 }
 
-#[tactic(auto, unfolding(esa_model::specs::CardWriting::with_data))]
+#[tactic(auto, unfolding(deck_model::specs::CardWriting::with_data))]
 fn add_data(card: &mut [u8; 80], bytes: &[u8])
     requires { length bytes.now ≤ 56 }
     ensures { card.new ≡ with_data bytes.now card.old }
@@ -45,7 +45,7 @@ fn code_of(sort: Sort) -> u8
     }
 }
 
-#[tactic(auto, unfolding(esa_model::specs::CardWriting::esd_item_bytes))]
+#[tactic(auto, unfolding(deck_model::specs::CardWriting::esd_item_bytes))]
 fn esd_item_bytes_of(item: &EsdItem) -> [u8; 16]
     requires address { IsTrue (fits_24 item.now.address) }
     requires extent { IsTrue (fits_24 item.now.extent) }
@@ -106,7 +106,10 @@ fn push_pointers(bytes: &mut ArrayVec<u8, 56>, omits: bool, item: &RldItem)
 fn push_rld_item(bytes: &mut ArrayVec<u8, 56>, omits: bool, next: bool, item: &RldItem)
     requires room { length bytes.old.items + (if omits then 4 else 8) ≤ 56 }
     requires fits { IsTrue (rld_item_fits item.now) }
-    ensures bytes { bytes.new.items ≡ bytes.old.items ++ (pointer_bytes omits item.now ++ (flag_of next item.now ∷ big_bytes 3 item.now.address)) }
+    ensures bytes { bytes.new.items
+        ≡ bytes.old.items
+        ++ (pointer_bytes omits item.now
+        ++ (flag_of next item.now ∷ big_bytes 3 item.now.address)) }
     ensures pointers { (item.now.target < 65536) × (item.now.place < 65536) }
 {
     let _target = item.target;
@@ -134,7 +137,7 @@ fn rld_data_of(items: &[RldItem]) -> ArrayVec<u8, 56>
     bytes
 }
 
-#[tactic(auto, unfolding(esa_model::specs::CardWriting::esd_bytes))]
+#[tactic(auto, unfolding(deck_model::specs::CardWriting::esd_bytes))]
 fn esd_bytes_of(first_id: u16, items: &[EsdItem], sequence: &[u8; 8]) -> [u8; 80]
     requires some { 0 < length items.now }
     requires few { length items.now ≤ 3 }
@@ -148,7 +151,7 @@ fn esd_bytes_of(first_id: u16, items: &[EsdItem], sequence: &[u8; 8]) -> [u8; 80
     card
 }
 
-#[tactic(auto, unfolding(esa_model::specs::CardWriting::txt_bytes))]
+#[tactic(auto, unfolding(deck_model::specs::CardWriting::txt_bytes))]
 fn txt_bytes_of(id: u16, address: u32, bytes: &[u8], sequence: &[u8; 8]) -> [u8; 80]
     requires some { 0 < length bytes.now }
     requires few { length bytes.now ≤ 56 }
@@ -162,7 +165,7 @@ fn txt_bytes_of(id: u16, address: u32, bytes: &[u8], sequence: &[u8; 8]) -> [u8;
     card
 }
 
-#[tactic(auto, unfolding(esa_model::specs::CardWriting::rld_card_bytes))]
+#[tactic(auto, unfolding(deck_model::specs::CardWriting::rld_card_bytes))]
 fn rld_bytes_of(items: &[RldItem], sequence: &[u8; 8]) -> [u8; 80]
     requires some { 0 < length items.now }
     requires size { rld_size false items.now ≤ 56 }
@@ -175,7 +178,7 @@ fn rld_bytes_of(items: &[RldItem], sequence: &[u8; 8]) -> [u8; 80]
     card
 }
 
-#[tactic(auto, unfolding(esa_model::specs::CardWriting::end_bytes))]
+#[tactic(auto, unfolding(deck_model::specs::CardWriting::end_bytes))]
 fn entry_bytes_of(e: EntryPoint, sequence: &[u8; 8]) -> [u8; 80]
     requires { IsTrue (entry_fits (Some e)) }
     ensures bytes { result ≡ end_bytes (Some e) sequence.now }
@@ -187,7 +190,7 @@ fn entry_bytes_of(e: EntryPoint, sequence: &[u8; 8]) -> [u8; 80]
     card
 }
 
-#[tactic(auto, unfolding(esa_model::specs::CardWriting::end_bytes))]
+#[tactic(auto, unfolding(deck_model::specs::CardWriting::end_bytes))]
 fn no_entry_bytes_of(sequence: &[u8; 8]) -> [u8; 80]
     ensures { result ≡ end_bytes None sequence.now }
 {
@@ -257,9 +260,9 @@ fn write_sym(sequence: &[u8; 8]) -> [u8; 80]
     blank_card_of(0xE2E8D4, sequence)
 }
 
-/// Writes a card that fits into its 80 columns, with its identification in columns 73-80. Reading it gives
-/// the card. Columns that its type does not name are blank, and an item omits its pointers exactly where
-/// they are those of the item before it.
+/// Writes a card that fits into its 80 columns, with its identification in columns 73-80. Reading
+/// it gives the card. Columns that its type does not name are blank, and an item omits its pointers
+/// exactly where they are those of the item before it.
 pub fn write_card(card: &Card, sequence: &[u8; 8]) -> [u8; 80]
     requires { IsTrue (card_fits card.now) }
     ensures bytes { result ≡ card_bytes card.now sequence.now }

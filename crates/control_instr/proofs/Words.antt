@@ -12,10 +12,12 @@ words_from f a (suc n) =
     let rest = flat_map f (range_with_len (a + 1) n) in
     rw e
     (ap (λ ys. f a ++ ys) (words_from f (a + 1) n)
-    ∙ (sym (append_assoc (f a) rest (f (a + 1 + n))) ∙ ap (λ p. (f a ++ rest) ++ f p) place))
+    ∙ (sym (append_assoc (f a) rest (f (a + 1 + n)))
+    ∙ ap (λ p. (f a ++ rest) ++ f p) place))
 
-pub words_step : (f : ℕ → List ℕ) (k : ℕ) (old new : List ℕ) → new ≡ old ++ f k → old ≡ flat_map f (range_with_len 0 k)
-    → new ≡ flat_map f (range_with_len 0 (k + 1))
+pub words_step : (f : ℕ → List ℕ) (k : ℕ) (old new : List ℕ) → new ≡ old ++ f k
+    → old ≡ flat_map f (range_with_len 0 k) → new ≡ flat_map f (range_with_len 0 (k + 1))
 words_step f k old new more so_far =
     let place : k ≡ 0 + k = omega arith in
-    more ∙ (ap (λ xs. xs ++ f k) so_far ∙ (ap (λ p. flat_map f (range_with_len 0 k) ++ f p) place ∙ sym (words_from f 0 k)))
+    let last = ap (λ p. flat_map f (range_with_len 0 k) ++ f p) place ∙ sym (words_from f 0 k) in
+    more ∙ (ap (λ xs. xs ++ f k) so_far ∙ last)

@@ -1,21 +1,22 @@
 // STCTL and LCTL.
-ghost use Rattle.std.specs.Prelude.{◌≡◌, ◌≤◌, ◌<◌, ◌+◌, ◌-◌, ◌*◌, ◌%◌, ◌++◌, length, map, slice_index};
-ghost use Rattle.std.specs.List.{range_with_len, flat_map};
+ghost use Rattle.std.specs.Prelude.{◌≡◌, ◌≤◌, ◌<◌, ◌+◌, ◌*◌, ◌++◌, length, map};
+ghost use Rattle.std.specs.List.{range_with_len};
 ghost use Rattle.arrayvec.specs.ArrayVec.{array_vec_len};
 ghost use Rattle.byteorder.specs.Endian.{big_bytes};
-ghost use Rattle.esa_model.specs.ControlRows.{register_count, loaded_register, store_control, load_control};
+ghost use Rattle.esa_model.specs.Line.{register_count as count_of};
+ghost use Rattle.esa_model.specs.ControlRows.{loaded_register, store_control as row_of_stctl, load_control as row_of_lctl};
 
-use crate::outcome::{Controlled, changed};
+use crate::outcome::{Controlled, change};
 use arrayvec::ArrayVec;
 use byteorder::{BigEndian, ByteOrder};
 use esa_model::instructions::Decoded;
 use esa_model::machine::Registers;
 
 /// How many registers are named: R1 to R3, 0 after 15.
-pub fn count_of(d: &Decoded) -> u8
+pub fn register_count(d: &Decoded) -> u8
     requires first { d.now.r1 < 16 }
     requires second { d.now.r2 < 16 }
-    ensures count { result ≡ register_count d.now }
+    ensures count { result ≡ count_of d.now }
     ensures some { 1 ≤ result }
     ensures most { result ≤ 16 }
 {
@@ -33,71 +34,65 @@ fn append(list: &mut ArrayVec<u8, 64>, word: u32)
     let _ = list.try_extend_from_slice(&bytes);
 }
 
-fn words_of(r: &Registers, d: &Decoded) -> ArrayVec<u8, 64>
-    requires first { d.now.r1 < 16 }
-    requires second { d.now.r2 < 16 }
-    ensures { result.items ≡ flat_map (λ k. big_bytes 4 (slice_index r.now.control ((d.now.r1 + k) % 16))) (range_with_len 0 (register_count d.now)) }
-{
-    let mut list = ArrayVec::new();
-    for k in 0..count_of(d) {
-        append(&mut list, r.control[((d.r1 + k) % 16) as usize]);
-    }
-    list
-}
-
 /// STCTL.
 #[tactic(auto, unfolding(esa_model::specs::ControlRows::store_control))]
-pub fn store(r: &Registers, d: &Decoded) -> Controlled
+pub fn store_control(r: &Registers, d: &Decoded) -> Controlled
     requires first { d.now.r1 < 16 }
     requires second { d.now.r2 < 16 }
-    ensures { result ≡ store_control r.now d.now }
+    ensures { result ≡ row_of_stctl r.now d.now }
 {
+    let mut stored = ArrayVec::new();
+    for k in 0..register_count(d) {
+        append(&mut stored, r.control[((d.r1 + k) % 16) as usize]);
+    }
     Controlled {
         registers: *r,
-        stored: words_of(r, d),
+        stored,
         set_key: None,
         fault: 0,
     }
 }
 
 /// Register `n` after LCTL.
-fn loaded(r: &Registers, d: &Decoded, operand: &[u8], n: u8) -> u32
+fn load_register(r: &Registers, d: &Decoded, operand: &[u8], n: u8) -> u32
     requires first { d.now.r1 < 16 }
     requires second { d.now.r2 < 16 }
-    requires bytes { length operand.now ≡ 4 * register_count d.now }
+    requires bytes { length operand.now ≡ 4 * count_of d.now }
     requires number { n < 16 }
     ensures { result ≡ loaded_register r.now d.now operand.now n }
 {
     let k = (n + 16 - d.r1) % 16;
-    if k < count_of(d) {
+    if k < register_count(d) {
         BigEndian::read_u32(&operand[4 * k as usize..])
     } else {
         r.control[n as usize]
     }
 }
 
-fn loaded_all(r: &Registers, d: &Decoded, operand: &[u8]) -> [u32; 16]
+/// All control registers after LCTL.
+fn load_all(r: &Registers, d: &Decoded, operand: &[u8]) -> [u32; 16]
     requires first { d.now.r1 < 16 }
     requires second { d.now.r2 < 16 }
-    requires bytes { length operand.now ≡ 4 * register_count d.now }
+    requires bytes { length operand.now ≡ 4 * count_of d.now }
     ensures { result ≡ map (loaded_register r.now d.now operand.now) (range_with_len 0 16) }
 {
     let mut control = [0; 16];
     for n in 0..16 {
-        control[n as usize] = loaded(r, d, operand, n);
+        control[n as usize] = load_register(r, d, operand, n);
     }
     control
 }
 
 /// LCTL.
 #[tactic(auto, unfolding(esa_model::specs::ControlRows::load_control))]
-pub fn load(r: &Registers, d: &Decoded, operand: &[u8]) -> Controlled
+pub fn load_control(r: &Registers, d: &Decoded, operand: &[u8]) -> Controlled
     requires first { d.now.r1 < 16 }
     requires second { d.now.r2 < 16 }
-    requires bytes { length operand.now ≡ 4 * register_count d.now }
-    ensures { result ≡ load_control r.now d.now operand.now }
+    requires bytes { length operand.now ≡ 4 * count_of d.now }
+    ensures { result ≡ row_of_lctl r.now d.now operand.now }
 {
-    let mut out = *r;
-    out.control = loaded_all(r, d, operand);
-    changed(out)
+    change(Registers {
+        control: load_all(r, d, operand),
+        ..*r
+    })
 }

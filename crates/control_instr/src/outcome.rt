@@ -6,9 +6,10 @@ use arrayvec::ArrayVec;
 use esa_model::machine::Registers;
 use std::marker::Model;
 
-/// What a control instruction makes: the registers after it, in which the instruction address is not
-/// advanced, the bytes that it stores from the front of its operand on, the key that SSKE or RRBE sets, and
-/// the program code that suppresses it, or 0. Where there is one the registers are as they were.
+/// What a control instruction makes: the registers after it, in which the instruction address is
+/// not advanced, the bytes that it stores from the front of its operand on, the key that SSKE or
+/// RRBE sets, and the program code that suppresses it, or 0. Where there is one the registers are
+/// as they were.
 #[derive(Drop)]
 pub struct Controlled {
     pub registers: Registers,
@@ -22,11 +23,16 @@ impl Model for Controlled {
 
     ghost Value = { Control };
 
-    ghost view = { λ c. record { registers = c.registers; stored = c.stored.items; set_key = c.set_key; fault = c.fault } };
+    ghost view = { λ c. record {
+      registers = c.registers;
+      stored = c.stored.items;
+      set_key = c.set_key;
+      fault = c.fault;
+    } };
 }
 
 /// Other registers, and nothing else.
-pub fn changed(registers: Registers) -> Controlled
+pub fn change(registers: Registers) -> Controlled
     ensures { result ≡ changes registers }
 {
     Controlled {
@@ -38,7 +44,7 @@ pub fn changed(registers: Registers) -> Controlled
 }
 
 /// The same registers, and a program code.
-pub fn suppressed(r: &Registers, fault: u8) -> Controlled
+pub fn suppress(r: &Registers, fault: u8) -> Controlled
     ensures { result ≡ suppresses r.now fault }
 {
     Controlled {
@@ -50,7 +56,7 @@ pub fn suppressed(r: &Registers, fault: u8) -> Controlled
 }
 
 /// The bytes as a list.
-fn listed(bytes: &[u8]) -> ArrayVec<u8, 64>
+fn list_of(bytes: &[u8]) -> ArrayVec<u8, 64>
     requires { length bytes.now ≤ 64 }
     ensures { result.items ≡ bytes.now }
 {
@@ -60,13 +66,13 @@ fn listed(bytes: &[u8]) -> ArrayVec<u8, 64>
 }
 
 /// Registers, and bytes that are stored.
-pub fn kept(registers: Registers, bytes: &[u8]) -> Controlled
+pub fn keep(registers: Registers, bytes: &[u8]) -> Controlled
     requires { length bytes.now ≤ 64 }
     ensures { result ≡ keeps registers bytes.now }
 {
     Controlled {
         registers,
-        stored: listed(bytes),
+        stored: list_of(bytes),
         set_key: None,
         fault: 0,
     }

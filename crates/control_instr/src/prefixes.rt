@@ -1,9 +1,10 @@
 // SPX, STPX and STAP.
 ghost use Rattle.std.specs.Prelude.{◌≡◌, ◌<◌, ◌≤◌, ◌^◌, length};
-ghost use Rattle.esa_model.specs.ControlRows.{prefix_bits, set_prefix, store_prefix, store_number};
+ghost use Rattle.esa_model.specs.ControlRows.{prefix_bits, set_prefix as row_of_spx, store_prefix as row_of_stpx, store_number as row_of_stap};
 
-use crate::outcome::{Controlled, changed, kept, suppressed};
+use crate::outcome::{Controlled, change, keep, suppress};
 use byteorder::{BigEndian, ByteOrder};
+use esa_model::codes::ADDRESSING;
 use esa_model::machine::{CpuNo, Registers};
 
 /// Bits 1-19 of a word.
@@ -16,35 +17,33 @@ fn page_of(word: u32) -> u32
 
 /// SPX.
 #[tactic(auto, unfolding(esa_model::specs::ControlRows::set_prefix))]
-pub fn take_prefix(r: &Registers, size: u32, operand: &[u8]) -> Controlled
+pub fn set_prefix(r: &Registers, size: u32, operand: &[u8]) -> Controlled
     requires { 4 ≤ length operand.now }
-    ensures { result ≡ set_prefix r.now size operand.now }
+    ensures { result ≡ row_of_spx r.now size operand.now }
 {
     let prefix = page_of(BigEndian::read_u32(operand));
     if size < prefix + 0x1000 {
-        return suppressed(r, 5);
+        return suppress(r, ADDRESSING);
     }
-    let mut out = *r;
-    out.prefix = prefix;
-    changed(out)
+    change(Registers { prefix, ..*r })
 }
 
 /// STPX.
 #[tactic(auto, unfolding(esa_model::specs::ControlRows::store_prefix))]
-pub fn give_prefix(r: &Registers) -> Controlled
-    ensures { result ≡ store_prefix r.now }
+pub fn store_prefix(r: &Registers) -> Controlled
+    ensures { result ≡ row_of_stpx r.now }
 {
     let mut bytes = [0; 4];
     BigEndian::write_u32(&mut bytes, page_of(r.prefix));
-    kept(*r, &bytes)
+    keep(*r, &bytes)
 }
 
 /// STAP.
 #[tactic(auto, unfolding(esa_model::specs::ControlRows::store_number))]
-pub fn give_number(r: &Registers, cpu: CpuNo) -> Controlled
-    ensures { result ≡ store_number r.now cpu.0 }
+pub fn store_number(r: &Registers, cpu: CpuNo) -> Controlled
+    ensures { result ≡ row_of_stap r.now cpu.0 }
 {
     let mut bytes = [0; 2];
     BigEndian::write_u16(&mut bytes, u16::from(cpu.0));
-    kept(*r, &bytes)
+    keep(*r, &bytes)
 }

@@ -1,2 +1,3 @@
-pub mod After
+pub mod Called
+pub mod Covered
 pub mod Quiet

@@ -1,8 +1,11 @@
 -- The order that a row sends to another CPU.
-use Rattle.std.specs.Prelude.{◌≡◌, ◌⊎◌, ℕ, List, true}
+-- Source: choice of this project.
+use Rattle.std.specs.Prelude.{◌≡◌, List, true, Option, Some, None}
+use Rattle.esa_model.specs.declared.events.SentOrder.{SentOrder}
 use Rattle.esa_model.specs.declared.machine.Signals.{Signals}
 use Rattle.esa_model.specs.SigpAnswers.{answer_of}
 
--- no order, or one that the bus accepts
-abbrev pub Sends : List Signals → ℕ → ℕ → Type 0
-Sends bus order to = (order ≡ 0) ⊎ ((answer_of bus to order).accepted ≡ true)
+-- an order, if there is one, is such that the bus accepts it
+abbrev pub Sends : List Signals → Option SentOrder → Type 0
+Sends bus None = Unit {0}
+Sends bus (Some o) = (answer_of bus o.to o.order).accepted ≡ true

@@ -1,16 +1,14 @@
-//! The rows of control instructions, DIAGNOSE and SIGNAL PROCESSOR: their tests, their operands and what
-//! they do.
+//! The rows of control instructions, DIAGNOSE, SIGNAL PROCESSOR and clocks: their tests, their
+//! operands and what they do.
 #![tactic(auto)]
 
-mod classes;
+mod clocks;
 mod control;
 mod diagnose;
-mod events;
 mod keys;
 mod rows;
 mod signal;
 
-pub use events::psw_left;
 pub use rows::{effect_of, in_order, operands};
 
 #[cfg(test)]

@@ -1,23 +1,24 @@
 // SIGNAL PROCESSOR.
-ghost use Rattle.std.specs.Prelude.{◌≡◌, ◌<◌, true, None};
-ghost use Rattle.esa_model.specs.Rows.Controls.{signal_line, with_status as status_put};
+ghost use Rattle.std.specs.Prelude.{◌≡◌, ◌<◌, None, IsTrue};
+ghost use Rattle.esa_model.specs.Rows.Controls.{sent_to, signal_line, with_status as status_put};
 ghost use Rattle.esa_model.specs.SigpAnswers.{answer_of};
 ghost use Rattle.control_rows.specs.Orders.{Sends};
-ghost use Rattle.row_frame.specs.Made.{inputs, IsInRange, IsPlain};
+ghost use Rattle.row_frame.specs.Made.{situation, IsInRange, IsPlain};
 
 use abs_storage::View;
+use esa_model::events::SentOrder;
 use esa_model::machine::{CpuNo, Registers};
 use esa_model::signalling::SigpAnswer;
 use result_packet::Side;
-use row_frame::{Effect, Instruction, after, general_of, leave, psw_coded, second_of};
+use row_frame::{Effect, Instruction, after, general_of, leave, second_of};
 use sigp_bus::Bus;
 
-/// The answer to an order: an order that is accepted is one to a CPU that is there.
+/// The answer to an order: one that is accepted is an order to a CPU that is there.
 #[tactic(auto, unfolding(esa_model::specs::SigpAnswers::answer_of, esa_model::specs::SigpAnswers::answer_in))]
-fn answered(bus: &Bus, to: u16, order: u8) -> SigpAnswer
+fn answer_to(bus: &Bus, to: u16, order: u8) -> SigpAnswer
     ensures answer { result ≡ answer_of bus.now to order }
     ensures code { result.cc < 4 }
-    ensures there { result.accepted ≡ true → to < 256 }
+    ensures there { IsTrue result.accepted → to < 256 }
 {
     let _cpus = bus.cpus();
     bus.answer(to, order)
@@ -33,11 +34,27 @@ fn with_status(r: &Registers, r1: u8, a: &SigpAnswer) -> Registers
     if a.cc == 1 {
         out.general[r1 as usize] = a.status;
     }
-    out.psw = psw_coded(r.psw, a.cc);
+    out.psw = r.psw.with_condition_code(a.cc);
     out
 }
 
+/// The order that goes to the CPU: one other than sense, where it is accepted.
+fn order_sent(order: u8, to: u16, a: &SigpAnswer) -> Option<SentOrder>
+    requires there { IsTrue a.now.accepted → to < 256 }
+    ensures { result ≡ sent_to order to a.now }
+{
+    if a.accepted && 1 < order {
+        Some(SentOrder {
+            order,
+            to: to as u8,
+        })
+    } else {
+        None
+    }
+}
+
 /// An order to a CPU, which takes effect when the sender commits.
+#[tactic(auto, using(crate::proofs::Quiet::sends_accepted))]
 pub fn signal_effect<V: View>(
     r: &Registers,
     cpu: CpuNo,
@@ -46,18 +63,18 @@ pub fn signal_effect<V: View>(
     i: &Instruction,
 ) -> Effect
     requires fields { IsInRange i.now.decoded }
-    ensures effect { result ≡ signal_line.effect (inputs r.now cpu.0 (V.bytes view.now) side.now i.now) }
+    ensures effect { result ≡ signal_line.effect
+        (situation r.now cpu.0 (V.bytes view.now) side.now i.now) }
     ensures plain { IsPlain result }
-    ensures console { result.console_in ≡ None }
-    ensures sends { Sends side.now.bus result.order result.order_to }
+    ensures console_in { result.console_in ≡ None }
+    ensures sends { Sends side.now.bus result.sent }
+    ensures set_key { result.set_key ≡ None }
 {
     let d = &i.decoded;
     let order = (second_of(r, d) % 256) as u8;
     let to = (general_of(r, d.r2) % 0x1_0000) as u16;
-    let a = answered(&side.bus, to, order);
-    let is_sent = a.accepted && 1 < order;
+    let a = answer_to(&side.bus, to, order);
     let mut e = leave(with_status(&after(r, i.len), d.r1, &a));
-    e.order = if is_sent { order } else { 0 };
-    e.order_to = if is_sent { to as u8 } else { 0xFF };
+    e.sent = order_sent(order, to, &a);
     e
 }

@@ -1,13 +1,17 @@
-// Control rows, DIAGNOSE and SIGNAL PROCESSOR, worked by hand from the Principles of Operation.
-ghost use Rattle.std.specs.Prelude.{IfSome};
+// Rows by their words, worked by hand from the Principles of Operation.
+ghost use Rattle.std.specs.Prelude.{IfSome, IsTrue};
+ghost use Rattle.esa_model.specs.Rows.Controls.{has_control};
 ghost use Rattle.row_frame.specs.Made.{IsInRange};
 
-use crate::{effect_of, in_order, operands, psw_left};
+use crate::{effect_of, in_order, operands};
 use abs_storage::AbsStorage;
+use esa_model::codes::ADDRESSING;
+use esa_model::events::{KeySet, SentOrder};
+use esa_model::kinds::{ControlKind, Kind};
 use esa_model::machine::{CpuNo, Psw, Registers};
-use esa_table::decode;
+use esa_table::{decode, kind, row};
 use result_packet::{Console, Side};
-use row_frame::{Effect, Instruction, leave};
+use row_frame::{Effect, Instruction};
 use sigp_bus::Bus;
 use std::alloc::Global;
 use std::test::Fail;
@@ -15,8 +19,40 @@ use storage_keys::Keys;
 
 const CPU: CpuNo = CpuNo(1);
 
-/// Control register n has X'C0' plus n. The instruction is at X'1000' in 31-bit mode, the condition code 2,
+/// A control row where it stands.
+#[derive(Clone, Copy)]
+struct ControlRow {
+    kind: ControlKind,
+    opcode: u16,
+    instruction: Instruction,
+}
+
+/// The control row that a word names, at X'1000'.
+#[tactic(auto, unfolding(esa_model::specs::Rows::All::is_of_kind))]
+fn row_of_word(word: u32) -> Option<ControlRow>
+    ensures fields { IfSome result (λ p. IsInRange p.instruction.decoded) }
+    ensures known { IfSome result (λ p. IsTrue (has_control p.kind p.opcode)) }
+{
+    let [first, second, third, fourth] = word.to_be_bytes();
+    let decoded = decode(&[first, second, third, fourth, 0, 0])?;
+    let row = row(decoded.row)?;
+    let Some(Kind::Controls(kind)) = kind(decoded.row) else {
+        return None;
+    };
+    Some(ControlRow {
+        kind,
+        opcode: row.opcode,
+        instruction: Instruction {
+            decoded,
+            own: 0x1000,
+            len: 4,
+        },
+    })
+}
+
+/// Control register n has X'C0' plus n. The instruction is in 31-bit mode, the condition code 2,
 /// the system mask X'03'. Register 1 has an address in page 1, register 7 one past the storage.
+/// The comparator is 7, and the timer was zero at the clock X'FFF'.
 fn registers() -> Registers {
     Registers {
         general: [
@@ -46,21 +82,24 @@ fn registers() -> Registers {
             w1: 0x8000_1000,
         },
         prefix: 0,
+        clocks: [7, 0xFFF, 0, 0],
     }
 }
 
-/// Block 1 has the key X'36', CPU 1 of three was started, and three bytes of console input are left.
+/// Block 1 has the key X'36', CPU 1 of three was started, three bytes of console input are left,
+/// and the clock is X'1000', as after one event.
 fn new_side(alloc: Global) -> Result<Side, Fail> {
-    let input = vec![in alloc; 0xC8u8; 3];
-    match (Keys::new(alloc, 2), Bus::new(alloc, 3), input) {
-        (Ok(mut keys), Ok(mut bus), Ok(bytes)) => {
-            keys.set(1, 0x36);
-            bus.signal(CpuNo(0), CPU, 4);
-            let console = Console::new(bytes);
-            Ok(Side { keys, bus, console })
-        }
-        _ => Err("no memory".into()),
-    }
+    let mut keys = Keys::new(alloc, 2)?;
+    keys.set(1, 0x36);
+    let mut bus = Bus::new(alloc, 3)?;
+    bus.signal(CpuNo(0), CPU, 4);
+    let console = Console::new(vec![in alloc; 0xC8u8; 3]?);
+    Ok(Side {
+        keys,
+        bus,
+        console,
+        clock: 0x1000,
+    })
 }
 
 fn put(storage: &mut AbsStorage, at: u32, bytes: &[u8]) {
@@ -71,301 +110,194 @@ fn put(storage: &mut AbsStorage, at: u32, bytes: &[u8]) {
     }
 }
 
-/// Two pages with a PSW, the prefix X'1000' and another word from X'200' on.
+/// Two pages with a PSW, the prefix X'1000', another word and the number 5 from X'200' on.
 fn new_storage(alloc: Global) -> Result<AbsStorage, Fail> {
-    let Ok(mut storage) = AbsStorage::new(alloc, 0x2000) else {
-        return Err("no memory".into());
-    };
+    let mut storage = AbsStorage::new(alloc, 0x2000)?;
     put(&mut storage, 0x200, &[0x01, 0x08, 0x30, 0, 0x80, 0, 4, 0]);
-    put(
-        &mut storage,
-        0x208,
-        &[0x80, 0, 0x1F, 0xFF, 0x11, 0x22, 0x33, 0x44],
-    );
+    put(&mut storage, 0x208, &[0x80, 0, 0x1F, 0xFF, 1, 2, 3, 4]);
+    put(&mut storage, 0x210, &[0, 0, 0, 0, 0, 0, 0, 5]);
     Ok(storage)
 }
 
-fn placed(bytes: [u8; 4]) -> Option<Instruction>
-    ensures { IfSome result (λ i. IsInRange i.decoded) }
-{
-    let [first, second, third, fourth] = bytes;
-    let decoded = decode(&[first, second, third, fourth, 0, 0])?;
-    Some(Instruction {
-        decoded,
-        own: 0x1000,
-        len: 4,
-    })
-}
-
-/// The address and the length of the first operand, and whether it is fetched and stored; none where the
-/// instruction is out of order.
-fn operand(
-    opcode: u16,
-    bytes: [u8; 4],
-    storage: &AbsStorage,
-    side: &Side,
-) -> Option<(u32, usize, bool, bool)> {
+/// The address and the length of the first operand, and whether it is fetched and stored; none
+/// where the instruction is out of order.
+fn operand(word: u32, storage: &AbsStorage, side: &Side) -> Option<(u32, usize, bool, bool)> {
     let r = registers();
-    let i = placed(bytes)?;
-    if in_order(opcode, &r, CPU, storage, side, &i) {
-        let os = operands(opcode, &r, CPU, storage, side, &i);
-        Some((
-            os.first.at,
-            os.first.offsets.len(),
-            os.first.fetch,
-            os.first.store,
-        ))
-    } else {
-        None
+    let p = row_of_word(word)?;
+    if !in_order(p.kind, p.opcode, &r, CPU, storage, side, &p.instruction) {
+        return None;
+    }
+    let o = operands(p.kind, p.opcode, &r, CPU, storage, side, &p.instruction).first;
+    Some((o.at, o.offsets.len(), o.fetch, o.store))
+}
+
+/// What a row does.
+fn effect(word: u32, storage: &mut AbsStorage, side: &Side) -> Result<Effect, Fail> {
+    let r = registers();
+    match row_of_word(word) {
+        Some(p) => Ok(effect_of(p.kind, p.opcode, &r, CPU, storage, side, &p.instruction)),
+        None => Err("no control row".into()),
     }
 }
 
-/// What an instruction does.
-fn effect(
-    opcode: u16,
-    bytes: [u8; 4],
-    r: &Registers,
-    storage: &mut AbsStorage,
-    side: &Side,
-) -> Effect {
-    match placed(bytes) {
-        Some(i) => effect_of(opcode, r, CPU, storage, side, &i),
-        None => leave(*r),
-    }
-}
-
+/// Each on its boundary, and off it; DIAGNOSE with a function that is none, and with counts of 0
+/// and 257.
 #[test]
-fn operands_of_rows(rt: HostRuntime) -> Result<(), Fail> {
+fn operands_and_boundaries(rt: HostRuntime) -> Result<(), Fail> {
     let side = new_side(rt.alloc())?;
     let storage = new_storage(rt.alloc())?;
-    for (opcode, bytes, first) in [
-        (0x82, [0x82, 0, 0x02, 0x08], Some((0x208, 8, true, false))),
-        (
-            0x83,
-            [0x83, 0x42, 0x01, 0x00],
-            Some((0x202, 2, true, false)),
-        ),
-        (
-            0x83,
-            [0x83, 0x43, 0x01, 0x04],
-            Some((0x202, 5, false, true)),
-        ),
-        (
-            0xAD,
-            [0xAD, 0x44, 0x12, 0x00],
-            Some((0x1A00, 1, false, true)),
-        ),
-        (
-            0xB6,
-            [0xB6, 0xE1, 0x02, 0x00],
-            Some((0x200, 16, false, true)),
-        ),
-        (
-            0xB7,
-            [0xB7, 0x10, 0x02, 0x04],
-            Some((0x204, 64, true, false)),
-        ),
+    for (name, word, first) in [
+        ("LPSW", 0x8200_0208, Some((0x208, 8, true, false))),
+        ("LPSW", 0x8200_0204, None),
+        ("DIAG 4,2", 0x8342_0100, Some((0x202, 2, true, false))),
+        ("DIAG 4,3", 0x8343_0104, Some((0x202, 5, false, true))),
+        ("DIAG 4,2", 0x8342_0108, None),
+        ("DIAG 4,0", 0x8340_0100, None),
+        ("DIAG 4,6", 0x8346_0104, None),
+        ("STOSM", 0xAD44_1200, Some((0x1A00, 1, false, true))),
+        ("STCTL 14,1", 0xB6E1_0200, Some((0x200, 16, false, true))),
+        ("LCTL 1,0", 0xB710_0204, Some((0x204, 64, true, false))),
+        ("LCTL 1,0", 0xB710_0202, None),
+        ("STCK", 0xB205_0201, Some((0x201, 8, false, true))),
+        ("SPT", 0xB208_0208, Some((0x208, 8, true, false))),
+        ("SPT", 0xB208_0204, None),
+        ("STCKC", 0xB207_0208, Some((0x208, 8, false, true))),
+        ("STCKC", 0xB207_0204, None),
     ] {
-        assert_eq!(rt; operand(opcode, bytes, &storage, &side), first, "{bytes:?}");
-    }
-    for (opcode, bytes) in [
-        (0x82, [0x82, 0, 0x02, 0x04]),
-        (0x83, [0x83, 0x42, 0x01, 0x08]),
-        (0x83, [0x83, 0x40, 0x01, 0x00]),
-        (0x83, [0x83, 0x46, 0x01, 0x04]),
-        (0xB7, [0xB7, 0xE1, 0x02, 0x02]),
-        (0xB212, [0xB2, 0x12, 0x02, 0x01]),
-    ] {
-        assert!(rt;
-            operand(opcode, bytes, &storage, &side).is_none(),
-            "{bytes:?}"
-        );
+        assert_eq!(rt; operand(word, &storage, &side), first, "{name}");
     }
     Ok(())
 }
 
-/// SSM, LPSW, STNSM and STOSM.
+/// The masks and the PSW, control registers 14, 15, 0 and 1, and the prefix: the number of bytes
+/// that are stored and the last of them, the left word of the PSW, control register 0, and the
+/// prefix.
 #[test]
-fn masks_and_psws(rt: HostRuntime) -> Result<(), Fail> {
+fn masks_control_registers_and_prefix(rt: HostRuntime) -> Result<(), Fail> {
     let side = new_side(rt.alloc())?;
     let mut storage = new_storage(rt.alloc())?;
-    let r = registers();
-    for (opcode, bytes, w0, w1, stored) in [
-        (0x80, [0x80, 0, 0x02, 0x00], 0x0108_2000, 0x8000_1004, None),
-        (0x82, [0x82, 0, 0x02, 0x00], 0x0108_3000, 0x8000_0400, None),
-        (
-            0xAC,
-            [0xAC, 0x01, 0x03, 0x00],
-            0x0108_2000,
-            0x8000_1004,
-            Some(3),
-        ),
-        (
-            0xAD,
-            [0xAD, 0x44, 0x03, 0x00],
-            0x4708_2000,
-            0x8000_1004,
-            Some(3),
-        ),
+    for (name, word, len, last, w0, control, prefix) in [
+        ("SSM", 0x8000_0200, 0, None, 0x0108_2000, 0xC0, 0),
+        ("LPSW", 0x8200_0200, 0, None, 0x0108_3000, 0xC0, 0),
+        ("STOSM", 0xAD44_0300, 1, Some(3), 0x4708_2000, 0xC0, 0),
+        ("STCTL", 0xB6E1_0200, 16, Some(0xC1), 0x0308_2000, 0xC0, 0),
+        ("LCTL", 0xB7E1_0200, 0, None, 0x0308_2000, 0x8000_1FFF, 0),
+        ("SPX", 0xB210_0208, 0, None, 0x0308_2000, 0xC0, 0x1000),
+        ("STAP", 0xB212_0202, 2, Some(1), 0x0308_2000, 0xC0, 0),
     ] {
-        let e = effect(opcode, bytes, &r, &mut storage, &side);
-        assert_eq!(rt; e.registers.psw, Psw { w0, w1 }, "{bytes:?}");
-        assert_eq!(rt; e.stored.as_slice().first().copied(), stored, "{bytes:?}");
+        let e = effect(word, &mut storage, &side)?;
+        assert_eq!(rt; e.stored.len(), len, "{name}");
+        assert_eq!(rt; e.stored.as_slice().last().copied(), last, "{name}");
+        assert_eq!(rt; e.registers.psw.w0, w0, "{name}");
+        assert_eq!(rt; e.registers.control[0], control, "{name}");
+        assert_eq!(rt; e.registers.prefix, prefix, "{name}");
     }
     Ok(())
 }
 
-/// STCTL and LCTL of the registers 14, 15, 0 and 1, SPX of a page that is there and of one that is not, STPX
-/// and STAP: the number of bytes stored and the last of them, control register 0, prefix and program code.
-#[test]
-fn control_registers_and_prefix(rt: HostRuntime) -> Result<(), Fail> {
-    let side = new_side(rt.alloc())?;
-    let mut storage = new_storage(rt.alloc())?;
-    let r = registers();
-    for (opcode, bytes, len, last, control, prefix, fault) in [
-        (0xB6, [0xB6, 0xE1, 0x02, 0x00], 16, Some(0xC1), 0xC0, 0, 0),
-        (0xB7, [0xB7, 0xE1, 0x02, 0x00], 0, None, 0x8000_1FFF, 0, 0),
-        (0xB210, [0xB2, 0x10, 0x02, 0x08], 0, None, 0xC0, 0x1000, 0),
-        (0xB210, [0xB2, 0x10, 0x02, 0x0C], 0, None, 0xC0, 0, 5),
-        (0xB211, [0xB2, 0x11, 0x02, 0x04], 4, Some(0), 0xC0, 0, 0),
-        (0xB212, [0xB2, 0x12, 0x02, 0x02], 2, Some(1), 0xC0, 0, 0),
-    ] {
-        let e = effect(opcode, bytes, &r, &mut storage, &side);
-        assert_eq!(rt; e.stored.len(), len, "{bytes:?}");
-        assert_eq!(rt; e.stored.as_slice().last().copied(), last, "{bytes:?}");
-        assert_eq!(rt; e.registers.control[0], control, "{bytes:?}");
-        assert_eq!(rt; (e.registers.prefix, e.fault), (prefix, fault), "{bytes:?}");
-    }
-    Ok(())
-}
-
-/// ISKE, RRBE and SSKE for block 1, whose reference and change bits are one, and SSKE past the storage.
+/// For block 1, whose reference and change bits are one: register 5, the condition code and the
+/// key that is set. One byte past the storage there is no block.
 #[test]
 fn keys_of_blocks(rt: HostRuntime) -> Result<(), Fail> {
     let side = new_side(rt.alloc())?;
     let mut storage = new_storage(rt.alloc())?;
-    let r = registers();
-    for (opcode, bytes, register, w0, block, key, fault) in [
-        (
-            0xB229,
-            [0xB2, 0x29, 0, 0x51],
-            0x1234_5636,
-            0x0308_2000,
-            0xFFFF,
-            0,
-            0,
-        ),
-        (
-            0xB22A,
-            [0xB2, 0x2A, 0, 0x51],
-            0x1234_56FF,
-            0x0308_3000,
-            1,
-            0x32,
-            0,
-        ),
-        (
-            0xB22B,
-            [0xB2, 0x2B, 0, 0x51],
-            0x1234_56FF,
-            0x0308_2000,
-            1,
-            0xFE,
-            0,
-        ),
-        (
-            0xB22B,
-            [0xB2, 0x2B, 0, 0x57],
-            0x1234_56FF,
-            0x0308_2000,
-            0xFFFF,
-            0,
-            5,
-        ),
+    for (name, word, register, code, set) in [
+        ("ISKE 5,1", 0xB229_0051, 0x1234_5636, 2, None),
+        ("RRBE 5,1", 0xB22A_0051, 0x1234_56FF, 3, Some(0x32)),
+        ("SSKE 5,1", 0xB22B_0051, 0x1234_56FF, 2, Some(0xFE)),
     ] {
-        let e = effect(opcode, bytes, &r, &mut storage, &side);
-        assert_eq!(rt; e.registers.general[5], register, "{bytes:?}");
-        assert_eq!(rt; e.registers.psw.w0, w0, "{bytes:?}");
-        assert_eq!(rt; (e.block, e.key, e.fault), (block, key, fault), "{bytes:?}");
+        let e = effect(word, &mut storage, &side)?;
+        assert_eq!(rt; e.registers.general[5], register, "{name}");
+        assert_eq!(rt; e.registers.psw.condition_code(), code, "{name}");
+        assert_eq!(rt;
+            e.set_key,
+            set.map(|key| KeySet { block: 1, key }),
+            "{name}"
+        );
     }
+    let past = effect(0xB22B_0057, &mut storage, &side)?;
+    assert_eq!(rt; (past.set_key, past.fault), (None, ADDRESSING), "SSKE 5,7");
     Ok(())
 }
 
-/// Two bytes are written; of five that are asked for the three that are left are read.
+/// Two bytes are written; of five that are asked for the three that are left are read. The number
+/// of bytes for the console and for the storage, the last of each, how many are read, and register
+/// 3.
 #[test]
 fn console(rt: HostRuntime) -> Result<(), Fail> {
     let side = new_side(rt.alloc())?;
     let mut storage = new_storage(rt.alloc())?;
-    let r = registers();
-    for (bytes, lengths, written, stored, read, count) in [
-        ([0x83, 0x42, 0x01, 0x00], (2, 0), Some(0x30), None, None, 5),
+    for (name, word, written, stored, read, count) in [
+        ("DIAG 4,2", 0x8342_0100, (2, Some(0)), (0, None), None, 5),
         (
-            [0x83, 0x43, 0x01, 0x04],
-            (0, 3),
-            None,
-            Some(0xC8),
+            "DIAG 4,3",
+            0x8343_0104,
+            (0, None),
+            (3, Some(0xC8)),
             Some(3),
             3,
         ),
     ] {
-        let e = effect(0x83, bytes, &r, &mut storage, &side);
+        let e = effect(word, &mut storage, &side)?;
+        let out = e.console_out.as_slice();
+        let bytes = e.stored.as_slice();
+        assert_eq!(rt; (out.len(), out.last().copied()), written, "{name}");
+        assert_eq!(rt; (bytes.len(), bytes.last().copied()), stored, "{name}");
         assert_eq!(rt;
-            e.console_out.as_slice().first().copied(),
-            written,
-            "{bytes:?}"
+            (e.console_in, e.registers.general[3]),
+            (read, count),
+            "{name}"
         );
-        assert_eq!(rt; e.stored.as_slice().last().copied(), stored, "{bytes:?}");
-        assert_eq!(rt; e.console_in, read, "{bytes:?}");
-        assert_eq!(rt; e.registers.general[3], count, "{bytes:?}");
-        assert_eq!(rt; (e.console_out.len(), e.stored.len()), lengths, "{bytes:?}");
     }
     Ok(())
 }
 
-/// Sense of the CPU itself and of CPU 2, which is stopped; restart of CPU 5, which is not there; start of
-/// CPU 2; an external call to the CPU itself; an order that is none. Of register 9 the low half names the CPU.
+/// SIGP to the CPU itself, which is operating, to CPU 2, which is stopped, and to CPU 5, which is
+/// not there; register 9 names CPU 1 by its low half. Register 5, the condition code, and the
+/// order that is sent and its CPU.
 #[test]
 fn orders(rt: HostRuntime) -> Result<(), Fail> {
     let side = new_side(rt.alloc())?;
     let mut storage = new_storage(rt.alloc())?;
-    let r = registers();
-    for (bytes, register, w0, order, to) in [
-        ([0xAE, 0x58, 0, 0x01], 0x1234_56FF, 0x0308_0000, 0, 0xFF),
-        ([0xAE, 0x59, 0, 0x01], 0x1234_56FF, 0x0308_0000, 0, 0xFF),
-        ([0xAE, 0x52, 0, 0x01], 0x40, 0x0308_1000, 0, 0xFF),
-        ([0xAE, 0x53, 0, 0x06], 0x1234_56FF, 0x0308_3000, 0, 0xFF),
-        ([0xAE, 0x52, 0, 0x04], 0x1234_56FF, 0x0308_0000, 4, 2),
-        ([0xAE, 0x58, 0x0F, 0x02], 0x1234_56FF, 0x0308_0000, 2, 1),
-        ([0xAE, 0x50, 0, 0x07], 2, 0x0308_1000, 0, 0xFF),
+    for (name, word, register, code, sent) in [
+        ("sense of 1", 0xAE58_0001, 0x1234_56FF, 0, None),
+        ("sense of 1", 0xAE59_0001, 0x1234_56FF, 0, None),
+        ("sense of 2", 0xAE52_0001, 0x40, 1, None),
+        ("restart of 5", 0xAE53_0006, 0x1234_56FF, 3, None),
+        ("start of 2", 0xAE52_0004, 0x1234_56FF, 0, Some((4, 2))),
+        ("external call", 0xAE58_0F02, 0x1234_56FF, 0, Some((2, 1))),
+        ("no order", 0xAE50_0007, 2, 1, None),
     ] {
-        let e = effect(0xAE, bytes, &r, &mut storage, &side);
-        assert_eq!(rt; e.registers.general[5], register, "{bytes:?}");
-        assert_eq!(rt; e.registers.psw.w0, w0, "{bytes:?}");
-        assert_eq!(rt; (e.order, e.order_to), (order, to), "{bytes:?}");
+        let e = effect(word, &mut storage, &side)?;
+        assert_eq!(rt; e.registers.general[5], register, "{name}");
+        assert_eq!(rt; e.registers.psw.condition_code(), code, "{name}");
+        assert_eq!(rt;
+            e.sent,
+            sent.map(|(order, to)| SentOrder { order, to }),
+            "{name}"
+        );
     }
     Ok(())
 }
 
-/// The PSW after an event of each kind, where the bytes that it stores overlap the new PSW of an SVC and
-/// the one of a program interruption.
+/// The clock is stored as it was before the event, with condition code 0. The timer, which is one
+/// below zero, becomes 5, so that it is zero at the clock X'1005'.
 #[test]
-fn new_psws(rt: HostRuntime) -> Result<(), Fail> {
+fn clocks(rt: HostRuntime) -> Result<(), Fail> {
+    let side = new_side(rt.alloc())?;
     let mut storage = new_storage(rt.alloc())?;
-    put(&mut storage, 0, &[0, 8, 0, 0, 0x80, 0, 0, 0x40]);
-    put(&mut storage, 88, &[0, 8, 0, 1, 0x80, 0, 1, 0x40]);
-    put(&mut storage, 96, &[0, 8, 0, 2, 0x80, 0, 2, 0x40]);
-    put(&mut storage, 104, &[0, 8, 0, 3, 0x80, 0, 3, 0x40]);
-    let r = registers();
-    let stored = [9, 8, 7, 6, 5, 4, 3, 2];
-    for (kind, w0, w1) in [
-        (0, 0x0308_2000, 0x8000_1000),
-        (1, 0x0504_0302, 0x8000_0340),
-        (2, 0x0008_0002, 0x0908_0706),
-        (3, 0x0008_0001, 0x8000_0140),
-        (4, 0x0008_0000, 0x8000_0040),
+    for (name, word, stored, code, words) in [
+        ("STCK", 0xB205_0201, Some(0x1000), 0, [7, 0xFFF, 0, 0]),
+        ("SCKC", 0xB206_0210, None, 2, [5, 0xFFF, 0, 0]),
+        ("STCKC", 0xB207_0210, Some(7), 2, [7, 0xFFF, 0, 0]),
+        ("SPT", 0xB208_0210, None, 2, [7, 0x1005, 0, 0]),
+        ("STPT", 0xB209_0210, Some(u64::MAX), 2, [7, 0xFFF, 0, 0]),
     ] {
-        let psw = psw_left(&r, &mut storage, 100, &stored, kind, r.psw, 0x0002_0007);
-        assert_eq!(rt; psw, Psw { w0, w1 }, "kind {kind}");
+        let e = effect(word, &mut storage, &side)?;
+        let bytes = e.stored.as_slice().first_chunk::<8>().copied();
+        assert_eq!(rt; bytes.map(u64::from_be_bytes), stored, "{name}");
+        assert_eq!(rt; e.registers.psw.condition_code(), code, "{name}");
+        assert_eq!(rt; e.registers.clocks, words, "{name}");
     }
     Ok(())
 }

@@ -31,9 +31,12 @@ push_more : (x a b : Bool) → (x && a) ≡ true → (a ≡ true → b ≡ true)
 push_more true a b h f = f h
 push_more false a b h f = h
 
-pairs_push : (bs : List ℕ) (b : ℕ) → all_pairs bs ≡ true → is_pair b ≡ true → all_pairs (bs ++ b ∷ []) ≡ true
+pairs_push : (bs : List ℕ) (b : ℕ) → all_pairs bs ≡ true → is_pair b ≡ true
+    → all_pairs (bs ++ b ∷ []) ≡ true
 pairs_push [] b h g = ap (λ (x : Bool). x && true) g
-pairs_push (x ∷ xs) b h g = push_more (is_pair x) (all_pairs xs) (all_pairs (xs ++ b ∷ [])) h (λ t. pairs_push xs b t g)
+pairs_push (x ∷ xs) b h g =
+    let more : Bool = all_pairs (xs ++ b ∷ []) in
+    push_more (is_pair x) (all_pairs xs) more h (λ t. pairs_push xs b t g)
 
 length-pairs : (n m : ℕ) → length (pairs n m) ≡ n
 length-pairs zero m = refl
@@ -53,7 +56,9 @@ body-pairs (suc n) m =
 
 pairs_are : (n m : ℕ) → all_pairs (pairs n m) ≡ true
 pairs_are zero m = refl
-pairs_are (suc n) m = pairs_push (pairs n (m / 100)) (m % 100 / 10 * 16 + m % 10) (pairs_are n (m / 100)) (are_digits m)
+pairs_are (suc n) m =
+    let front = pairs_are n (m / 100) in
+    pairs_push (pairs n (m / 100)) (m % 100 / 10 * 16 + m % 10) front (are_digits m)
 
 sign_small : (negative : Bool) → sign_code negative < 16
 sign_small true = omega arith
@@ -98,7 +103,8 @@ written_is_read n m negative some =
     record {
       packed = ap (λ z. field_by z (last (ps ++ x ∷ []))) f
           ∙ ap (λ z. field_by ps z) l
-          ∙ ap (λ (z : Bool). z && (ltb (x / 16) 10 && is_sign (x % 16))) (pairs_are (n - 1) (m / 10))
+          ∙ ap (λ (z : Bool). z && (ltb (x / 16) 10 && is_sign (x % 16)))
+          (pairs_are (n - 1) (m / 10))
           ∙ ap (λ z. ltb z 10 && is_sign (x % 16)) high
           ∙ ap (λ (z : Bool). z && is_sign (x % 16)) digit
           ∙ ap is_sign low

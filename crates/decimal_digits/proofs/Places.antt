@@ -14,14 +14,17 @@ body_push [] b = omega arith
 body_push (x ∷ xs) b =
     let r = body_push xs b in
     let l = length_push xs b in
-    let p : 100 ^ length (xs ++ b ∷ []) ≡ 100 ^ length xs * 100 = ap (λ n. 100 ^ n) l ∙ rw add-one (pow-suc 100 (length xs)) in
+    let p : 100 ^ length (xs ++ b ∷ []) ≡ 100 ^ length xs * 100 =
+    ap (λ n. 100 ^ n) l ∙ rw add-one (pow-suc 100 (length xs)) in
     let q = ap (λ z. pair x * z) p in
     omega arith
 
-pub body_more : (bs : List ℕ) (i : ℕ) → i < length bs → body (take (i + 1) bs) ≡ body (take i bs) * 100 + pair (get_or bs i 0)
+pub body_more : (bs : List ℕ) (i : ℕ) → i < length bs
+    → body (take (i + 1) bs) ≡ body (take i bs) * 100 + pair (get_or bs i 0)
 body_more bs i h = ap body (take_more bs i 0 h) ∙ body_push (take i bs) (get_or bs i 0)
 
-pub pairs_more : (bs : List ℕ) (i : ℕ) → i < length bs → all_pairs (take (i + 1) bs) ≡ (all_pairs (take i bs) && is_pair (get_or bs i 0))
+pub pairs_more : (bs : List ℕ) (i : ℕ) → i < length bs
+    → all_pairs (take (i + 1) bs) ≡ (all_pairs (take i bs) && is_pair (get_or bs i 0))
 pairs_more bs i h = list_all_more is_pair bs i 0 h
 
 pub grows : (v x i : ℕ) → v < 100 ^ i → x < 100 → v * 100 + x < 100 ^ (i + 1)
@@ -41,11 +44,15 @@ hundred_pos (suc k) = let r = hundred_pos k in rw (pow-suc 100 k) (omega arith)
 pub high_step : (m k : ℕ) → m / 100 ^ (k + 1) ≡ m / 100 ^ k / 100
 high_step m k = ap (λ w. m / w) (power_step k) ∙ sym (div-div-eq-div-mul m (100 ^ k) 100)
 
-filled : (s : List ℕ) (n j b : ℕ) → j < n → n ≤ length s → drop j (take n (set s j b)) ≡ b ∷ drop (j + 1) (take n s)
-filled s n j b h g = ap (drop j) (take-set-lt n s j b h) ∙ drop-set (take n s) j b (simp length-take (omega arith))
+filled : (s : List ℕ) (n j b : ℕ) → j < n → n ≤ length s
+    → drop j (take n (set s j b)) ≡ b ∷ drop (j + 1) (take n s)
+filled s n j b h g =
+    ap (drop j) (take-set-lt n s j b h) ∙ drop-set (take n s) j b (simp length-take (omega arith))
 
-pub pairs_step : (s : List ℕ) (n j left b : ℕ) → j < n → n ≤ length s → b ≡ left % 100 / 10 * 16 + left % 10
-    → pairs j (left / 100) ++ drop j (take n (set s j b)) ≡ pairs (j + 1) left ++ drop (j + 1) (take n s)
+pub pairs_step : (s : List ℕ) (n j left b : ℕ) → j < n → n ≤ length s
+    → b ≡ left % 100 / 10 * 16 + left % 10
+    → pairs j (left / 100) ++ drop j (take n (set s j b))
+    ≡ pairs (j + 1) left ++ drop (j + 1) (take n s)
 pairs_step s n j left b h g e =
     let rest = drop (j + 1) (take n s) in
     ap (λ z. pairs j (left / 100) ++ z) (filled s n j b h g)
@@ -53,7 +60,8 @@ pairs_step s n j left b h g e =
     ∙ sym (append_assoc (pairs j (left / 100)) ((left % 100 / 10 * 16 + left % 10) ∷ []) rest)
     ∙ rw add-one refl
 
-pub field_is : (new old ps : List ℕ) (n x : ℕ) → n + 1 ≡ length old → take n new ≡ ps → drop n new ≡ drop n (set old n x)
+pub field_is : (new old ps : List ℕ) (n x : ℕ) → n + 1 ≡ length old → take n new ≡ ps
+    → drop n new ≡ drop n (set old n x)
     → new ≡ ps ++ x ∷ []
 field_is new old ps n x e front rest =
     let lt : n < length old = omega arith in

@@ -28,8 +28,14 @@ scaled_lt m j k jp kp = let l = mul-le-mul_left k (mod_below m j jp) in omega ar
 
 pub lost_scaled : (m j k : ℕ) → 0 < k → leb j m ≡ leb (j * k) (m * k)
 lost_scaled m j k kp = elim (cases_lt m j) [
-  | inl small ↦ let l = mul-le-mul_left k small in let g : m * k < j * k = omega arith in grind (arith, nat_tests)
-  | inr large ↦ let l = mul-le-mul_left k large in let g : j * k ≤ m * k = omega arith in grind (arith, nat_tests)
+  | inl small ↦
+      let l = mul-le-mul_left k small in
+      let g : m * k < j * k = omega arith in
+      grind (arith, nat_tests)
+  | inr large ↦
+      let l = mul-le-mul_left k large in
+      let g : j * k ≤ m * k = omega arith in
+      grind (arith, nat_tests)
 ]
 
 pub product_is : (x y j k : ℕ) → x ≡ 10 ^ j → y ≡ 10 ^ k → j + k ≡ 31 → x * y ≡ 10 ^ 31

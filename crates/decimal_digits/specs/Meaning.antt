@@ -1,13 +1,20 @@
 -- What the values of this crate say of fields and whole numbers.
-use Rattle.std.specs.Prelude.{ℕ, ◌%◌, ◌≡◌, ◌≤◌, Bool, true, false, List, Option, Some, None}
-use Rattle.esa_model.specs.Packed.{is_packed, magnitude_of, is_negative_field, written, limit, kept, is_lost}
+-- Source: Principles of Operation, chapter Decimal Instructions; that a value keeps 31 digits is a
+-- choice of this project.
+use Rattle.std.specs.Prelude.{ℕ, ℤ, ◌%◌, ◌≡◌, ◌≤◌, Bool, true, false, List, Option, Some, None}
+use Rattle.esa_model.specs.Packed.{is_packed, magnitude_of, is_negative_field, whole, written, limit, kept, is_lost}
 use Rattle.decimal_digits.specs.declared.values.Digits.{Digits}
 use Rattle.decimal_digits.specs.declared.values.Wide.{Wide}
+
+-- the whole number of a value
+abbrev pub number_of : Digits → ℤ
+number_of d = whole d.negative d.magnitude
 
 -- the sign and number of a field, none at a bad digit or sign
 abbrev pub ReadAs : List ℕ → Option Digits → Type 0
 ReadAs f None = is_packed f ≡ false
-ReadAs f (Some d) = (is_packed f ≡ true) × (d.negative ≡ is_negative_field f) × (d.magnitude ≡ magnitude_of f)
+ReadAs f (Some d) =
+    (is_packed f ≡ true) × (d.negative ≡ is_negative_field f) × (d.magnitude ≡ magnitude_of f)
 
 -- the low 31 digits of m with this sign, and whether others are lost
 pub record IsWide (w : Wide) (negative : Bool) (m : ℕ) : Type 0 where
@@ -23,4 +30,5 @@ pub record Holds (field : List ℕ) (negative : Bool) (m : ℕ) : Type 0 where
 
 -- what is written is read: its sign, and the low digits
 abbrev pub WrittenIsRead : Type 0
-WrittenIsRead = (n m : ℕ) (negative : Bool) → 1 ≤ n → Holds (written n negative m) negative (m % limit n)
+WrittenIsRead =
+    (n m : ℕ) (negative : Bool) → 1 ≤ n → Holds (written n negative m) negative (m % limit n)

@@ -23,7 +23,8 @@ fn pair_of(b: u8) -> Option<u8>
 // The number that bytes of two digits each stand for.
 fn body_of(bytes: &[u8]) -> Option<u128>
     requires { length bytes.now ≤ 15 }
-    ensures some { IfSome result (λ m. IsTrue (all_pairs bytes.now) × (m ≡ body bytes.now) × (m < 10 ^ 30)) }
+    ensures some { IfSome result (λ m.
+        IsTrue (all_pairs bytes.now) × (m ≡ body bytes.now) × (m < 10 ^ 30)) }
     ensures none { IfNone result (all_pairs bytes.now ≡ false) }
 {
     let mut value: u128 = 0;
@@ -34,8 +35,9 @@ fn body_of(bytes: &[u8]) -> Option<u128>
     Some(value)
 }
 
-/// The sign and the number of a packed field of 1 to 16 bytes, None exactly at a bad digit or sign. The signs
-/// A, C, E and F are plus, B and D are minus (Principles of Operation, Decimal Instructions).
+/// The sign and the number of a packed field of 1 to 16 bytes, None exactly at a bad digit or sign.
+/// The signs A, C, E and F are plus, B and D are minus (Principles of Operation, Decimal
+/// Instructions).
 pub fn unpack(field: &[u8]) -> Option<Digits>
     requires some { 1 ≤ length field.now }
     requires few { length field.now ≤ 16 }
@@ -73,8 +75,8 @@ fn fill(into: &mut [u8], n: usize, m: u128) -> u128
     left
 }
 
-/// Writes the sign, C or D, and the low digits into a field of 1 to 16 bytes, and answers true exactly where a
-/// digit that is not zero is lost.
+/// Writes the sign, C or D, and the low digits into a field of 1 to 16 bytes, and answers true
+/// exactly where a digit that is not zero is lost.
 pub fn pack(d: &Digits, into: &mut [u8]) -> bool
     requires some { 1 ≤ length into.old }
     requires few { length into.old ≤ 16 }
@@ -87,7 +89,8 @@ pub fn pack(d: &Digits, into: &mut [u8]) -> bool
     fill(into, n, d.magnitude / 10) != 0
 }
 
-/// The law that a written field is good and is read as the sign and the low digits that were written.
+/// The law that a written field is good and is read as the sign and the low digits that were
+/// written.
 pub fn written_is_read()
     ensures { WrittenIsRead }
 {}

@@ -24,12 +24,13 @@ pub fn multiply(a: &Digits, b: &Digits) -> Digits
     }
 }
 
-/// Quotient and remainder, the quotient cut toward zero; None exactly where b is zero. The quotient's sign is by
-/// algebra and the remainder's is the dividend's, for zero too.
+/// Quotient and remainder, the quotient cut toward zero; None exactly where b is zero. The
+/// quotient's sign is by algebra and the remainder's is the dividend's, for zero too.
 pub fn divide(a: &Digits, b: &Digits) -> Option<(Digits, Digits)>
     ensures none { IsNone result ↔ (b.now.magnitude ≡ 0) }
     ensures quotient { IfSome result (λ p. p.0.magnitude ≡ a.now.magnitude / b.now.magnitude) }
-    ensures quotient_sign { IfSome result (λ p. p.0.negative ≡ differ a.now.negative b.now.negative) }
+    ensures quotient_sign { IfSome result (λ p.
+        p.0.negative ≡ differ a.now.negative b.now.negative) }
     ensures remainder { IfSome result (λ p. p.1.magnitude ≡ a.now.magnitude % b.now.magnitude) }
     ensures remainder_sign { IfSome result (λ p. p.1.negative ≡ a.now.negative) }
 {

@@ -46,9 +46,9 @@ fn shift_right(a: &Digits, by: u8, round: u8) -> Wide
     }
 }
 
-/// The value shifted by powers of ten, to the left where `by` is not negative. To the right the rounding digit
-/// is added to the last digit that is lost (Principles of Operation, SHIFT AND ROUND DECIMAL). The sign stays,
-/// also that of zero.
+/// The value shifted by powers of ten, to the left where `by` is not negative. To the right the
+/// rounding digit is added to the last digit that is lost (Principles of Operation, SHIFT AND ROUND
+/// DECIMAL). The sign stays, also that of zero.
 pub fn shift(a: &Digits, by: i8, round: u8) -> Wide
     requires low { negsuc 31 ≤ℤ by }
     requires high { by ≤ℤ pos 31 }

@@ -2,8 +2,7 @@
 
 ghost use Rattle.std.specs.Prelude.{◌≡◌, ◌+ℤ◌, ◌-ℤ◌, ℤ, unsigned_abs};
 ghost use Rattle.std.specs.Int.{is_negative};
-ghost use Rattle.esa_model.specs.Packed.{whole};
-ghost use Rattle.decimal_digits.specs.Meaning.{IsWide};
+ghost use Rattle.decimal_digits.specs.Meaning.{IsWide, number_of};
 
 use crate::values::{Digits, Wide};
 
@@ -25,7 +24,7 @@ fn low_digits(negative: bool, exact: u128) -> Wide
 
 /// The sum of two values as whole numbers, whose zero is positive.
 pub fn add(a: &Digits, b: &Digits) -> Wide
-    ensures { let z = whole a.now.negative a.now.magnitude +ℤ whole b.now.negative b.now.magnitude in
+    ensures { let z = number_of a.now +ℤ number_of b.now in
         IsWide result (is_negative z) (unsigned_abs z) }
 {
     if a.negative == b.negative {
@@ -41,7 +40,7 @@ pub fn add(a: &Digits, b: &Digits) -> Wide
 }
 
 fn opposite(d: &Digits) -> Digits
-    ensures { (x : ℤ) → (x +ℤ whole result.negative result.magnitude) ≡ (x -ℤ whole d.now.negative d.now.magnitude) }
+    ensures { (x : ℤ) → (x +ℤ number_of result) ≡ (x -ℤ number_of d.now) }
 {
     Digits {
         negative: !d.negative,
@@ -51,7 +50,7 @@ fn opposite(d: &Digits) -> Digits
 
 /// The difference of two values as whole numbers, whose zero is positive.
 pub fn subtract(a: &Digits, b: &Digits) -> Wide
-    ensures { let z = whole a.now.negative a.now.magnitude -ℤ whole b.now.negative b.now.magnitude in
+    ensures { let z = number_of a.now -ℤ number_of b.now in
         IsWide result (is_negative z) (unsigned_abs z) }
 {
     add(a, &opposite(b))

@@ -37,7 +37,7 @@ fn is_bad(field: [u8; 2]) -> bool {
 
 // The signs A to F, one and sixteen bytes, and a bad half-byte at each place.
 #[test]
-fn fields_are_read(rt: HostRuntime) {
+fn signs_a_to_f_are_read(rt: HostRuntime) {
     let mut nines = [0x99; 16];
     nines[15] = 0x9D;
     assert!(rt; reads(&nines, true, NINES));
@@ -64,8 +64,9 @@ fn fields_are_read(rt: HostRuntime) {
     }
 }
 
+// 31 nines, and numbers that have more digits than a field of one or two bytes.
 #[test]
-fn fields_are_written(rt: HostRuntime) {
+fn high_digits_are_lost(rt: HostRuntime) {
     let mut nines = [0; 16];
     assert!(rt; !pack(&value(true, NINES), &mut nines));
     assert!(rt; reads(&nines, true, NINES) && nines[0] == 0x99 && nines[15] == 0x9D);
@@ -84,8 +85,9 @@ fn fields_are_written(rt: HostRuntime) {
     assert!(rt; one == [0x7C]);
 }
 
+// Each sum is also the difference of the opposite number.
 #[test]
-fn sums(rt: HostRuntime) {
+fn zero_sum_is_positive(rt: HostRuntime) {
     for (a_negative, a, b_negative, b, negative, sum, lost) in [
         (false, 5, true, 7, true, 2, false),
         (false, 5, true, 5, false, 0, false),
@@ -103,7 +105,7 @@ fn sums(rt: HostRuntime) {
 
 // Signs by algebra, for zero too; 15 nines squared have 30 digits.
 #[test]
-fn products_and_quotients(rt: HostRuntime) {
+fn signs_are_by_algebra(rt: HostRuntime) {
     let half = Digits::new(true, 999_999_999_999_999);
     let square = multiply(&half, &half);
     assert!(rt; is_value(&square, false, 999_999_999_999_998_000_000_000_000_001));
@@ -124,8 +126,9 @@ fn products_and_quotients(rt: HostRuntime) {
     assert!(rt; divide(&value(true, 17), &value(true, 0)).is_none());
 }
 
+// A shift to the right adds the rounding digit to the last digit that is lost.
 #[test]
-fn shifts(rt: HostRuntime) {
+fn last_lost_digit_is_rounded(rt: HostRuntime) {
     for (a, by, round, shifted, lost) in [
         (NINES, -32, 9, 0, false),
         (NINES, -31, 0, 0, false),

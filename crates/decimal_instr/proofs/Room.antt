@@ -35,7 +35,8 @@ zeros bs = list_all (λ b. eqb b 0) bs
 zero_is : (b : ℕ) → eqb b 0 ≡ true → b ≡ 0
 zero_is b h = grind (arith, nat_tests)
 
-body_room : (bs : List ℕ) (m n : ℕ) → n ≤ m → zeros (take n bs) ≡ true → body (take m bs) ≡ body (drop n (take m bs))
+body_room : (bs : List ℕ) (m n : ℕ) → n ≤ m → zeros (take n bs) ≡ true
+    → body (take m bs) ≡ body (drop n (take m bs))
 body_room bs m zero le h = refl
 body_room [] zero (suc n) le h = refl
 body_room [] (suc m) (suc n) le h = refl
@@ -45,10 +46,12 @@ body_room (b ∷ bs) (suc m) (suc n) le h =
     let z = zero_is b s.0 in
     let r = body_room bs m n (omega arith) s.1 in
     let p : pair b ≡ 0 = omega arith in
-    let q : pair b * 100 ^ length (take m bs) ≡ 0 * 100 ^ length (take m bs) = ap (λ x. x * 100 ^ length (take m bs)) p in
+    let q : pair b * 100 ^ length (take m bs) ≡ 0 * 100 ^ length (take m bs) =
+    ap (λ x. x * 100 ^ length (take m bs)) p in
     omega arith
 
-magnitude_lt : (f : List ℕ) (n c : ℕ) → n + 1 ≤ length f → c ≡ length f - 1 - n → zeros (take n f) ≡ true → is_packed f ≡ true → magnitude_of f < 100 ^ c * 10
+magnitude_lt : (f : List ℕ) (n c : ℕ) → n + 1 ≤ length f → c ≡ length f - 1 - n
+    → zeros (take n f) ≡ true → is_packed f ≡ true → magnitude_of f < 100 ^ c * 10
 magnitude_lt f n c few is room packed =
     let s = both (all_pairs (front f)) (ltb (last f / 16) 10 && leb 10 (last f % 16)) packed in
     let t = both (ltb (last f / 16) 10) (leb 10 (last f % 16)) s.1 in
@@ -67,7 +70,9 @@ mul_lt x y a b h g =
     let r = mul-le-mul_left x g1 in
     omega arith
 
-pub product_small : (f s : List ℕ) → length f ≤ 16 → 1 ≤ length s → bad_lengths f s ≡ false → has_room f s ≡ true → is_packed f ≡ true → is_packed s ≡ true → magnitude_of f * magnitude_of s < 10 ^ 31
+pub product_small : (f s : List ℕ) → length f ≤ 16 → 1 ≤ length s → bad_lengths f s ≡ false
+    → has_room f s ≡ true → is_packed f ≡ true → is_packed s ≡ true
+    → magnitude_of f * magnitude_of s < 10 ^ 31
 product_small f s few some lengths room fp sp =
     let shorter : length s < length f = grind (arith, nat_tests) in
     let c : ℕ = length f - 1 - length s in

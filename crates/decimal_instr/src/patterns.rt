@@ -3,6 +3,7 @@
 ghost use Rattle.std.specs.Prelude.{◌≡◌, ◌+◌, ◌<◌, ◌≤◌, ℕ, List, length, slice_index};
 ghost use Rattle.esa_model.specs.Edit.{is_plus, digit_of, takes_digit, is_separator, after_digit, stepped, shown, start, state, replaced, answer, edited_pattern, SameUpTo};
 
+use esa_model::codes::{DATA, STAYS};
 use esa_model::decimals::{Edited, Editing, SourceDigit};
 
 fn is_plus_sign(half: u8) -> bool
@@ -159,8 +160,8 @@ fn answer_of(e: Editing) -> Edited
         return Edited {
             used: e.used,
             mark: None,
-            cc: 4,
-            fault: 7,
+            cc: STAYS,
+            fault: DATA,
         };
     }
     Edited {
@@ -177,7 +178,7 @@ fn answer_of(e: Editing) -> Edited
     }
 }
 
-// Replaces each pattern byte; the first one is the fill byte.
+/// Replaces each pattern byte; the first one is the fill byte.
 fn write(pattern: &mut [u8], source: &[u8])
     requires some { 1 ≤ length pattern.old }
     requires few { length pattern.old ≤ 256 }
@@ -193,7 +194,7 @@ fn write(pattern: &mut [u8], source: &[u8])
     }
 }
 
-// A bad digit leaves the pattern.
+/// A bad digit leaves the pattern.
 #[tactic(auto, unfolding(esa_model::specs::Edit::edited_pattern))]
 fn edit_all(pattern: &mut [u8], source: &[u8]) -> Edited
     requires some { 1 ≤ length pattern.old }
@@ -209,9 +210,9 @@ fn edit_all(pattern: &mut [u8], source: &[u8]) -> Edited
     answer_of(last)
 }
 
-/// Edits the digits of `source`, which has as many bytes as the pattern or more, into a pattern of 1 to 256 bytes
-/// (Principles of Operation, EDIT and EDIT AND MARK). A bad digit, program code 7, leaves the pattern. The source
-/// bytes from number `used` on do not matter.
+/// Edits the digits of `source`, which has as many bytes as the pattern or more, into a pattern of
+/// 1 to 256 bytes (Principles of Operation, EDIT and EDIT AND MARK). A bad digit, a data exception,
+/// leaves the pattern. The source bytes from number `used` on do not matter.
 pub fn edit(pattern: &mut [u8], source: &[u8]) -> Edited
     requires some { 1 ≤ length pattern.old }
     requires few { length pattern.old ≤ 256 }
@@ -219,7 +220,8 @@ pub fn edit(pattern: &mut [u8], source: &[u8]) -> Edited
     ensures answer { result ≡ answer (state source.now pattern.old) }
     ensures pattern { pattern.new ≡ edited_pattern source.now pattern.old }
     ensures used { (other : List ℕ) → SameUpTo result.used source.now other
-        → (answer (state other pattern.old) ≡ result) × (edited_pattern other pattern.old ≡ pattern.new) }
+        → (answer (state other pattern.old) ≡ result)
+        × (edited_pattern other pattern.old ≡ pattern.new) }
 {
     edit_all(pattern, source)
 }

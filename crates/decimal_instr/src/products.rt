@@ -5,10 +5,12 @@ ghost use Rattle.std.specs.List.{list_all};
 ghost use Rattle.esa_model.specs.Packed.{is_packed, magnitude_of, differ, written, limit};
 ghost use Rattle.esa_model.specs.DecimalRows.{Leaves, bad_lengths, has_room, multiply_row, divide_row};
 
-use crate::endings::ended;
+use crate::endings::{completed, suppressed};
 use decimal_digits::{Digits, divide, multiply, pack, unpack};
+use esa_model::codes::{DATA, DECIMAL_DIVIDE, SPECIFICATION};
 use esa_model::machine::Value;
 
+/// Whether the second operand has more than 8 bytes, or as many as the first or more.
 fn have_bad_lengths(first: &[u8], second: &[u8]) -> bool
     ensures { result ≡ bad_lengths first.now second.now }
 {
@@ -21,7 +23,7 @@ fn all_zero(bytes: &[u8]) -> bool
     bytes.iter().all(|b| *b == 0)
 }
 
-// The product of a field with enough zero bytes at its left has at most 30 digits.
+/// The product of a field with enough zero bytes at its left has at most 30 digits.
 fn product_of(first: &[u8], second: &[u8], a: &Digits, b: &Digits) -> Digits
     requires first_few { length first.now ≤ 16 }
     requires second_some { 1 ≤ length second.now }
@@ -39,7 +41,7 @@ fn product_of(first: &[u8], second: &[u8], a: &Digits, b: &Digits) -> Digits
 
 /// MULTIPLY DECIMAL.
 #[tactic(auto, unfolding(esa_model::specs::DecimalRows::multiply_row))]
-pub(crate) fn times(first: &mut [u8], second: &[u8]) -> Value
+pub(crate) fn multiply_decimal(first: &mut [u8], second: &[u8]) -> Value
     requires some { 1 ≤ length first.old }
     requires few { length first.old ≤ 16 }
     requires second_some { 1 ≤ length second.now }
@@ -47,26 +49,24 @@ pub(crate) fn times(first: &mut [u8], second: &[u8]) -> Value
     ensures { Leaves (multiply_row first.old second.now) first.new result }
 {
     if have_bad_lengths(first, second) {
-        return ended(4, 6);
+        return suppressed(SPECIFICATION);
     }
-    let a = match unpack(first) {
-        Some(a) => a,
-        None => return ended(4, 7),
+    let Some(a) = unpack(first) else {
+        return suppressed(DATA);
     };
-    let b = match unpack(second) {
-        Some(b) => b,
-        None => return ended(4, 7),
+    let Some(b) = unpack(second) else {
+        return suppressed(DATA);
     };
     if !all_zero(&first[..second.len()]) {
-        return ended(4, 7);
+        return suppressed(DATA);
     }
     let product = product_of(first, second, &a, &b);
     let _lost = pack(&product, first);
-    ended(4, 0)
+    completed()
 }
 
-// Writes a quotient into the first bytes and a remainder into the others.
-fn put_two(first: &mut [u8], at: usize, quotient: &Digits, remainder: &Digits)
+/// Writes a quotient into the first bytes and a remainder into the others.
+fn write_two(first: &mut [u8], at: usize, quotient: &Digits, remainder: &Digits)
     requires some { 1 ≤ at }
     requires fewer { at < length first.old }
     requires few { length first.old ≤ 16 }
@@ -78,7 +78,8 @@ fn put_two(first: &mut [u8], at: usize, quotient: &Digits, remainder: &Digits)
     let _none = pack(remainder, right);
 }
 
-fn fits(d: &Digits, bytes: usize) -> bool
+/// Whether no digit is lost in a field of so many bytes.
+fn fits_in(d: &Digits, bytes: usize) -> bool
     requires some { 1 ≤ bytes }
     requires few { bytes ≤ 16 }
     ensures { result ≡ nat_lt d.now.magnitude (limit bytes) }
@@ -90,7 +91,7 @@ fn fits(d: &Digits, bytes: usize) -> bool
 
 /// DIVIDE DECIMAL.
 #[tactic(auto, unfolding(esa_model::specs::DecimalRows::divide_row))]
-pub(crate) fn over(first: &mut [u8], second: &[u8]) -> Value
+pub(crate) fn divide_decimal(first: &mut [u8], second: &[u8]) -> Value
     requires some { 1 ≤ length first.old }
     requires few { length first.old ≤ 16 }
     requires second_some { 1 ≤ length second.now }
@@ -98,24 +99,21 @@ pub(crate) fn over(first: &mut [u8], second: &[u8]) -> Value
     ensures { Leaves (divide_row first.old second.now) first.new result }
 {
     if have_bad_lengths(first, second) {
-        return ended(4, 6);
+        return suppressed(SPECIFICATION);
     }
     let at = first.len() - second.len();
-    let a = match unpack(first) {
-        Some(a) => a,
-        None => return ended(4, 7),
+    let Some(a) = unpack(first) else {
+        return suppressed(DATA);
     };
-    let b = match unpack(second) {
-        Some(b) => b,
-        None => return ended(4, 7),
+    let Some(b) = unpack(second) else {
+        return suppressed(DATA);
     };
-    let (quotient, remainder) = match divide(&a, &b) {
-        Some(p) => p,
-        None => return ended(4, 11),
+    let Some((quotient, remainder)) = divide(&a, &b) else {
+        return suppressed(DECIMAL_DIVIDE);
     };
-    if !fits(&quotient, at) {
-        return ended(4, 11);
+    if !fits_in(&quotient, at) {
+        return suppressed(DECIMAL_DIVIDE);
     }
-    put_two(first, at, &quotient, &remainder);
-    ended(4, 0)
+    write_two(first, at, &quotient, &remainder);
+    completed()
 }

@@ -1,28 +1,32 @@
 //! The instructions of two fields.
 
-ghost use Rattle.std.specs.Prelude.{◌≡◌, ◌≤◌, ◌||◌, ◌==◌, IsTrue, length};
-ghost use Rattle.esa_model.specs.DecimalRows.{Leaves, halves_row, two_row};
+ghost use Rattle.std.specs.Prelude.{◌≡◌, ◌≤◌, IsTrue, length};
+ghost use Rattle.esa_model.specs.DecimalRows.{Leaves, halves_row, is_halves, is_two, two_row};
 
-use crate::endings::ended;
-use crate::{halves, products, sums};
+use crate::endings::completed;
+use crate::halves::move_halves;
+use crate::products::{divide_decimal, multiply_decimal};
+use crate::sums::{add_decimal, compare_decimal, subtract_decimal, zero_and_add};
 use esa_model::machine::Value;
 
-fn halves_moved(op: u8, first: &mut [u8], second: &[u8]) -> Value
-    requires row { IsTrue ((op == 0xF1) || ((op == 0xF2) || (op == 0xF3))) }
+/// MVO, PACK and UNPK.
+fn carry_halves(op: u8, first: &mut [u8], second: &[u8]) -> Value
+    requires row { IsTrue (is_halves op) }
     requires some { 1 ≤ length first.old }
     requires few { length first.old ≤ 16 }
     ensures { Leaves (halves_row op first.old second.now) first.new result }
 {
-    halves::move_halves(op, first, second);
-    ended(4, 0)
+    move_halves(op, first, second);
+    completed()
 }
 
-/// The instructions MVO, PACK, UNPK, ZAP, CP, AP, SP, MP and DP, by their opcodes X'F1' to X'F3' and X'F8' to
-/// X'FD', on fields of 1 to 16 bytes. Program codes 6, 7 and 11 leave the first field; 10 comes with the result.
+/// What an instruction of two fields of 1 to 16 bytes leaves of the first, by its opcode: MVO
+/// X'F1', PACK X'F2', UNPK X'F3', ZAP X'F8', CP X'F9', AP X'FA', SP X'FB', MP X'FC', DP X'FD'. A
+/// specification, data or decimal-divide exception leaves the first field; a decimal overflow comes
+/// with the result (Principles of Operation, Decimal Instructions and General Instructions).
 #[tactic(auto, unfolding(esa_model::specs::DecimalRows::two_row))]
 pub fn two(op: u8, first: &mut [u8], second: &[u8]) -> Value
-    requires row { IsTrue (((op == 0xF1) || ((op == 0xF2) || (op == 0xF3)))
-        || ((op == 0xF8) || ((op == 0xF9) || ((op == 0xFA) || ((op == 0xFB) || ((op == 0xFC) || (op == 0xFD))))))) }
+    requires row { IsTrue (is_two op) }
     requires some { 1 ≤ length first.old }
     requires few { length first.old ≤ 16 }
     requires second_some { 1 ≤ length second.now }
@@ -30,12 +34,12 @@ pub fn two(op: u8, first: &mut [u8], second: &[u8]) -> Value
     ensures { Leaves (two_row op first.old second.now) first.new result }
 {
     match op {
-        0xF8 => sums::zero_and_add(first, second),
-        0xF9 => sums::compare(first, second),
-        0xFA => sums::plus(first, second),
-        0xFB => sums::minus(first, second),
-        0xFC => products::times(first, second),
-        0xFD => products::over(first, second),
-        _ => halves_moved(op, first, second),
+        0xF8 => zero_and_add(first, second),
+        0xF9 => compare_decimal(first, second),
+        0xFA => add_decimal(first, second),
+        0xFB => subtract_decimal(first, second),
+        0xFC => multiply_decimal(first, second),
+        0xFD => divide_decimal(first, second),
+        _ => carry_halves(op, first, second),
     }
 }

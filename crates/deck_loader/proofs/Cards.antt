@@ -2,21 +2,21 @@
 use Rattle.std.proofs.Common.{◌≡◌, ◌≢◌, ℕ, zero, suc, ◌+◌, ◌/◌, ◌%◌, eqb, length, Bool, true, false, cond, not, List, [], ◌∷◌, ◌++◌, take, drop, Option, Some, None, Result, Ok, Err, refl, sym, ◌∙◌, ap, subst, arith, append_assoc, append-nil}
 use Rattle.std.proofs.lemmas.Bool.Decides.{nat_tests}
 use Rattle.std.specs.List.{find}
-use Rattle.esa_model.specs.Card.{card_of}
-use Rattle.esa_model.specs.Deck.{Listing, listing, listing_of, listing_or_refusal, cards_of, cards_from, with_first, ends, is_end, card_refusal, texts_of, uses_of, esd_list, label_uses, rld_list, pointer_uses}
-use Rattle.esa_model.specs.Image.{is_unknown, is_section_found, has_id}
-use Rattle.esa_model.specs.declared.cards.Card.{Card}
-use Rattle.esa_model.specs.declared.cards.Card.TheVariants.{Esd, Txt, Rld, End, Sym}
-use Rattle.esa_model.specs.declared.cards.CardRefusal.{CardRefusal}
-use Rattle.esa_model.specs.declared.cards.CardRefusal.TheVariants.{BadFirstByte, UnknownCard, BadCount, Unsupported}
-use Rattle.esa_model.specs.declared.decks.DeckRefusal.{DeckRefusal}
-use Rattle.esa_model.specs.declared.decks.DeckRefusal.TheVariants.{NoEnd, NotCards}
-use Rattle.esa_model.specs.declared.decks.Numbered.{Numbered}
-use Rattle.esa_model.specs.declared.decks.Item.{Item}
-use Rattle.esa_model.specs.declared.decks.Text.{Text}
-use Rattle.esa_model.specs.declared.decks.Relocation.{Relocation}
-use Rattle.esa_model.specs.declared.decks.Entry.{Entry}
-use Rattle.esa_model.specs.declared.decks.Use.{Use}
+use Rattle.deck_model.specs.Card.{card_of}
+use Rattle.deck_model.specs.Deck.{Listing, listing, listing_of, listing_or_refusal, cards_of, cards_from, with_first, ends, is_end, card_refusal, texts_of, uses_of, esd_list, label_uses, rld_list, pointer_uses}
+use Rattle.deck_model.specs.Image.{is_unknown, is_section_found, has_id}
+use Rattle.deck_model.specs.declared.cards.Card.{Card}
+use Rattle.deck_model.specs.declared.cards.Card.TheVariants.{Esd, Txt, Rld, End, Sym}
+use Rattle.deck_model.specs.declared.cards.CardRefusal.{CardRefusal}
+use Rattle.deck_model.specs.declared.cards.CardRefusal.TheVariants.{BadFirstByte, UnknownCard, BadCount, Unsupported}
+use Rattle.deck_model.specs.declared.decks.DeckRefusal.{DeckRefusal}
+use Rattle.deck_model.specs.declared.decks.DeckRefusal.TheVariants.{NoEnd, NotCards}
+use Rattle.deck_model.specs.declared.decks.Numbered.{Numbered}
+use Rattle.deck_model.specs.declared.decks.Item.{Item}
+use Rattle.deck_model.specs.declared.decks.Text.{Text}
+use Rattle.deck_model.specs.declared.decks.Relocation.{Relocation}
+use Rattle.deck_model.specs.declared.decks.Entry.{Entry}
+use Rattle.deck_model.specs.declared.decks.Use.{Use}
 use Rattle.deck_loader.specs.Listed.{Refuses, no_listing, with_card, joined, onto, TextsKnown, TextsAreUsed}
 
 abbrev so : List Item → List Text → List Relocation → List Entry → List Use → Listing

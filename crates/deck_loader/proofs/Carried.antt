@@ -1,10 +1,10 @@
 -- Texts and relocations carried out leave the bytes of the image.
 use Rattle.std.proofs.Common.{◌≡◌, ℕ, zero, suc, List, [], ◌∷◌, length, get_or, replicate, refl, sym, ◌∙◌, ap, subst}
 use Rattle.std.proofs.lemmas.List.{length-replicate}
-use Rattle.esa_model.specs.Deck.{Listing}
-use Rattle.esa_model.specs.Image.{bytes_from, image_byte, text_at, text_byte}
-use Rattle.esa_model.specs.declared.decks.Placed.{Placed}
-use Rattle.esa_model.specs.declared.decks.Text.{Text}
+use Rattle.deck_model.specs.Deck.{Listing}
+use Rattle.deck_model.specs.Image.{bytes_from, image_byte, text_at, text_byte}
+use Rattle.deck_model.specs.declared.decks.Placed.{Placed}
+use Rattle.deck_model.specs.declared.decks.Text.{Text}
 use Rattle.deck_loader.specs.Written.{stored, written, relocate, AreInside, ConstantsAreInside}
 use Rattle.deck_loader.proofs.Text.{Shows, length-stored, texts_show, shown}
 use Rattle.deck_loader.proofs.Constants.{relocate_shows, length-relocate}

@@ -3,10 +3,10 @@ use Rattle.std.proofs.Common.{◌≡◌, ℕ, ◌+◌, ◌-◌, ◌<◌, ◌≤�
 use Rattle.std.proofs.lemmas.Grind.{reverse_onto}
 use Rattle.byteorder.specs.Endian.{big_number, big_bytes}
 use Rattle.byteorder.specs.Numbers.{length-bytes_high_first}
-use Rattle.esa_model.specs.declared.decks.Item.{Item}
-use Rattle.esa_model.specs.declared.decks.Placed.{Placed}
-use Rattle.esa_model.specs.declared.decks.Relocation.{Relocation}
-use Rattle.esa_model.specs.Image.{added, bytes_from, relocated_byte, byte_after, constant_at, value}
+use Rattle.deck_model.specs.declared.decks.Item.{Item}
+use Rattle.deck_model.specs.declared.decks.Placed.{Placed}
+use Rattle.deck_model.specs.declared.decks.Relocation.{Relocation}
+use Rattle.deck_model.specs.Image.{added, bytes_from, relocated_byte, byte_after, constant_at, value}
 use Rattle.deck_loader.specs.Written.{relocated, relocate, ConstantsAreInside}
 use Rattle.deck_loader.proofs.Text.{Shows, stored_byte, length-stored, bytes_from_same}
 

@@ -4,9 +4,9 @@ use Rattle.std.proofs.lemmas.List.{get_or_default, length-map, map-append}
 use Rattle.std.specs.Option.{IfSome}
 use Rattle.std.proofs.lemmas.Option.{slice_get_read}
 use Rattle.std.specs.List.{list_any}
-use Rattle.esa_model.specs.Deck.{is_label}
-use Rattle.esa_model.specs.Image.{has_id, defines, name_of, names, blank_name, first_doubled, same_id, same_name, item_number}
-use Rattle.esa_model.specs.declared.decks.Item.{Item}
+use Rattle.deck_model.specs.Deck.{is_label}
+use Rattle.deck_model.specs.Image.{has_id, defines, name_of, names, blank_name, first_doubled, same_id, same_name, item_number}
+use Rattle.deck_model.specs.declared.decks.Item.{Item}
 use Rattle.std.specs.declared.collections.BTreeMap.{BTreeMap}
 use Rattle.std.specs.declared.alloc.Global.{Global}
 use Rattle.deck_loader.specs.Indexed.{IndexesIds, IndexesNames}

@@ -1,9 +1,9 @@
 -- The farthest text of a section, by the ends that are kept under keys.
 use Rattle.std.proofs.Common.{◌≡◌, ℕ, suc, ◌+◌, ◌-◌, ◌<◌, ◌≤◌, max, Bool, true, false, cond, eqb, ◌&&◌, List, [], ◌∷◌, ◌++◌, length, All, refl, sym, ◌∙◌, ap, arith}
 use Rattle.std.proofs.lemmas.Bool.Decides.{nat_tests}
-use Rattle.esa_model.specs.Image.{farthest, length_of}
-use Rattle.esa_model.specs.declared.decks.Item.{Item}
-use Rattle.esa_model.specs.declared.decks.Text.{Text}
+use Rattle.deck_model.specs.Image.{farthest, length_of}
+use Rattle.deck_model.specs.declared.decks.Item.{Item}
+use Rattle.deck_model.specs.declared.decks.Text.{Text}
 use Rattle.deck_loader.specs.Keys.{item_key}
 use Rattle.deck_loader.specs.Indexed.{last_end}
 use Rattle.deck_loader.proofs.Items.{one_number}

@@ -2,18 +2,18 @@
 use Rattle.std.proofs.Common.{◌≡◌, ℕ, suc, ◌+◌, ◌-◌, ◌<◌, ◌≤◌, Bool, true, false, cond, not, eqb, ltb, leb, ◌&&◌, ◌||◌, max, List, [], ◌∷◌, length, Option, Some, None, refl, sym, ◌∙◌, ap, subst, arith}
 use Rattle.std.proofs.lemmas.Bool.Decides.{nat_tests}
 use Rattle.std.specs.List.{find, list_any}
-use Rattle.esa_model.specs.Deck.{Listing, is_label, is_section}
-use Rattle.esa_model.specs.Image.{aligned, has_id, is_unknown, is_section_found, is_unresolved, section, or_nowhere, is_placed, place, places, length_of, text_end, farthest, is_text_outside, is_constant_outside, is_entry_outside, has_length, default_entry, entry, has_no_room, use_number, text_number, relocation_number, item_number, refused, entry_refused, room_refused, later_violation}
-use Rattle.esa_model.specs.declared.cards.Sort.{Sort}
-use Rattle.esa_model.specs.declared.cards.Sort.TheVariants.{Section, Private, Label, External, Weak}
-use Rattle.esa_model.specs.declared.decks.Item.{Item}
-use Rattle.esa_model.specs.declared.decks.Placed.{Placed}
-use Rattle.esa_model.specs.declared.decks.Text.{Text}
-use Rattle.esa_model.specs.declared.decks.Relocation.{Relocation}
-use Rattle.esa_model.specs.declared.decks.Entry.{Entry}
-use Rattle.esa_model.specs.declared.decks.Use.{Use}
-use Rattle.esa_model.specs.declared.decks.DeckRefusal.{DeckRefusal}
-use Rattle.esa_model.specs.declared.decks.DeckRefusal.TheVariants as refusal
+use Rattle.deck_model.specs.Deck.{Listing, is_label, is_section}
+use Rattle.deck_model.specs.Image.{aligned, has_id, is_unknown, is_section_found, is_unresolved, section, or_nowhere, is_placed, place, places, length_of, text_end, farthest, is_text_outside, is_constant_outside, is_entry_outside, has_length, default_entry, entry, has_no_room, use_number, text_number, relocation_number, item_number, refused, entry_refused, room_refused, later_violation}
+use Rattle.deck_model.specs.declared.cards.Sort.{Sort}
+use Rattle.deck_model.specs.declared.cards.Sort.TheVariants.{Section, Private, Label, External, Weak}
+use Rattle.deck_model.specs.declared.decks.Item.{Item}
+use Rattle.deck_model.specs.declared.decks.Placed.{Placed}
+use Rattle.deck_model.specs.declared.decks.Text.{Text}
+use Rattle.deck_model.specs.declared.decks.Relocation.{Relocation}
+use Rattle.deck_model.specs.declared.decks.Entry.{Entry}
+use Rattle.deck_model.specs.declared.decks.Use.{Use}
+use Rattle.deck_model.specs.declared.decks.DeckRefusal.{DeckRefusal}
+use Rattle.deck_model.specs.declared.decks.DeckRefusal.TheVariants as refusal
 use Rattle.deck_loader.specs.Listed.{WidthsFit, TextsKnown, TextsAreUsed}
 use Rattle.deck_loader.specs.Written.{AreInside, ConstantsAreInside}
 use Rattle.deck_loader.proofs.Cards.{none_case}

@@ -2,10 +2,10 @@
 use Rattle.std.proofs.Common.{◌≡◌, ◌≢◌, ℕ, suc, ◌+◌, ◌*◌, ◌<◌, Bool, true, false, cond, not, eqb, ◌&&◌, List, [], ◌∷◌, ◌++◌, length, get_or, map, Option, Some, None, refl, sym, ◌∙◌, ap, arith, append_assoc, length-append, All}
 use Rattle.std.proofs.lemmas.Bool.Decides.{nat_tests}
 use Rattle.std.specs.List.{find, slice_get}
-use Rattle.esa_model.specs.Deck.{is_label}
-use Rattle.esa_model.specs.Image.{has_id, defines, name_of, names, blank_name, is_placed}
-use Rattle.esa_model.specs.declared.decks.Item.{Item}
-use Rattle.esa_model.specs.declared.decks.Placed.{Placed}
+use Rattle.deck_model.specs.Deck.{is_label}
+use Rattle.deck_model.specs.Image.{has_id, defines, name_of, names, blank_name, is_placed}
+use Rattle.deck_model.specs.declared.decks.Item.{Item}
+use Rattle.deck_model.specs.declared.decks.Placed.{Placed}
 use Rattle.deck_loader.specs.Keys.{is_key, first_at, item_key, at_place}
 use Rattle.deck_loader.specs.ItemKeys.{id_key, name_key, placed_key}
 

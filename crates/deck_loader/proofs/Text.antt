@@ -3,9 +3,9 @@ use Rattle.std.proofs.Common.{◌≡◌, ◌≢◌, ℕ, zero, suc, ◌+◌, ◌
 use Rattle.std.proofs.lemmas.Bool.Decides.{nat_tests}
 use Rattle.std.proofs.lemmas.Bool.{cases_lt}
 use Rattle.std.specs.List.{slice_get}
-use Rattle.esa_model.specs.declared.decks.Placed.{Placed}
-use Rattle.esa_model.specs.declared.decks.Text.{Text}
-use Rattle.esa_model.specs.Image.{text_at, text_byte, bytes_from}
+use Rattle.deck_model.specs.declared.decks.Placed.{Placed}
+use Rattle.deck_model.specs.declared.decks.Text.{Text}
+use Rattle.deck_model.specs.Image.{text_at, text_byte, bytes_from}
 use Rattle.deck_loader.specs.Written.{stored, written, AreInside}
 
 pub length-stored : (at : ℕ) (ys xs : List ℕ) → length (stored at ys xs) ≡ length xs

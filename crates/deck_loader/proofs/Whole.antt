@@ -1,10 +1,10 @@
 -- From the passes to the image.
 use Rattle.std.proofs.Common.{◌≡◌, ℕ, List, [], Some, None, Result, Ok, Err, refl, ap}
-use Rattle.esa_model.specs.Deck.{Listing, listing}
-use Rattle.esa_model.specs.Image.{Image, image_at, image_of, unless_refused, violation, later_violation, first_doubled, same_id, same_name, item_number, places, place}
-use Rattle.esa_model.specs.declared.decks.Placed.{Placed}
-use Rattle.esa_model.specs.declared.decks.DeckRefusal.{DeckRefusal}
-use Rattle.esa_model.specs.declared.decks.DeckRefusal.TheVariants.{NotCards, BadFirstByte, UnknownCard, BadCount, Unsupported, NoEnd, DuplicateId, DuplicateName, UnknownId, TextOutside, RldOutside, EntryOutside, Unresolved, NoRoom, NoMemory}
+use Rattle.deck_model.specs.Deck.{Listing, listing}
+use Rattle.deck_model.specs.Image.{Image, image_at, image_of, unless_refused, violation, later_violation, first_doubled, same_id, same_name, item_number, places, place}
+use Rattle.deck_model.specs.declared.decks.Placed.{Placed}
+use Rattle.deck_model.specs.declared.decks.DeckRefusal.{DeckRefusal}
+use Rattle.deck_model.specs.declared.decks.DeckRefusal.TheVariants.{NotCards, BadFirstByte, UnknownCard, BadCount, Unsupported, NoEnd, DuplicateId, DuplicateName, UnknownId, TextOutside, RldOutside, EntryOutside, Unresolved, NoRoom, NoMemory}
 use Rattle.deck_loader.specs.Listed.{Refuses}
 
 pub refuses_by : {A : Type 0} → (reading : Result A DeckRefusal) (r : DeckRefusal) → reading ≡ Err r → Refuses reading r

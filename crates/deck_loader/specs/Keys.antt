@@ -1,4 +1,4 @@
--- Where keys stand in a list.
+-- Where keys stand in a list. Source: choice of this project.
 use Rattle.std.specs.Prelude.{◌≡◌, ℕ, ◌+◌, ◌*◌, Bool, false, ◌==◌, if◌then◌else◌, List, [], ◌∷◌, ◌++◌, Option, Some, None, slice_get}
 use Rattle.std.specs.List.{list_any}
 use Rattle.std.specs.BTreeMap.{get}
@@ -26,7 +26,8 @@ stands_in (Some k) ks = list_any (is_key k) ks
 -- the first place from n on whose key stands earlier
 abbrev pub first_again : ℕ → List (Option ℕ) → List (Option ℕ) → Option ℕ
 first_again n earlier [] = None
-first_again n earlier (k ∷ ks) = if stands_in k earlier then Some n else first_again (n + 1) (earlier ++ k ∷ []) ks
+first_again n earlier (k ∷ ks) =
+    if stands_in k earlier then Some n else first_again (n + 1) (earlier ++ k ∷ []) ks
 
 -- the first, else the second
 abbrev pub or_then : Option ℕ → Option ℕ → Option ℕ

@@ -1,11 +1,12 @@
 -- Texts and relocations carried out one after another on a list of bytes.
+-- Source: choice of this project.
 use Rattle.std.specs.Prelude.{ℕ, ◌+◌, ◌≤◌, Bool, List, [], ◌∷◌, length, slice_index, slice_set}
 use Rattle.byteorder.specs.Endian.{big_number, big_bytes}
-use Rattle.esa_model.specs.declared.decks.Item.{Item}
-use Rattle.esa_model.specs.declared.decks.Placed.{Placed}
-use Rattle.esa_model.specs.declared.decks.Text.{Text}
-use Rattle.esa_model.specs.declared.decks.Relocation.{Relocation}
-use Rattle.esa_model.specs.Image.{text_at, constant_at, added, bytes_from, value}
+use Rattle.deck_model.specs.declared.decks.Item.{Item}
+use Rattle.deck_model.specs.declared.decks.Placed.{Placed}
+use Rattle.deck_model.specs.declared.decks.Text.{Text}
+use Rattle.deck_model.specs.declared.decks.Relocation.{Relocation}
+use Rattle.deck_model.specs.Image.{text_at, constant_at, added, bytes_from, value}
 
 -- bytes stored one by one from a place on
 abbrev pub stored : ℕ → List ℕ → List ℕ → List ℕ
@@ -18,12 +19,18 @@ written ps (t ∷ ts) bytes = written ps ts (stored (text_at ps t) t.bytes.items
 
 -- a constant replaced by its sum or difference
 unfoldable pub relocated : ℕ → ℕ → Bool → ℕ → List ℕ → List ℕ
-relocated at width minus v xs = stored at (big_bytes width (added minus width v (big_number width (bytes_from (slice_index xs) at width)))) xs
+relocated at width minus v xs =
+    stored at
+    (big_bytes width
+    (added minus width v (big_number width (bytes_from (slice_index xs) at width))))
+    xs
 
 -- all in the order of the deck, each on what the earlier ones left
 abbrev pub relocate : List Item → List Placed → List Relocation → List ℕ → List ℕ
 relocate items ps [] bytes = bytes
-relocate items ps (r ∷ rs) bytes = relocate items ps rs (relocated (constant_at ps r) r.item.width r.item.minus (value items ps r) bytes)
+relocate items ps (r ∷ rs) bytes =
+    relocate items ps rs
+    (relocated (constant_at ps r) r.item.width r.item.minus (value items ps r) bytes)
 
 -- each text ends within n bytes
 abbrev pub AreInside : List Placed → ℕ → List Text → Type 0
@@ -33,4 +40,6 @@ AreInside ps n (t ∷ ts) = (text_at ps t + length t.bytes.items ≤ n) × AreIn
 -- each constant has a width and ends within n bytes
 abbrev pub ConstantsAreInside : List Placed → ℕ → List Relocation → Type 0
 ConstantsAreInside ps n [] = Unit {0}
-ConstantsAreInside ps n (r ∷ rs) = (1 ≤ r.item.width) × (r.item.width ≤ 4) × (constant_at ps r + r.item.width ≤ n) × ConstantsAreInside ps n rs
+ConstantsAreInside ps n (r ∷ rs) =
+    (1 ≤ r.item.width) × (r.item.width ≤ 4) × (constant_at ps r + r.item.width ≤ n)
+    × ConstantsAreInside ps n rs

@@ -1,7 +1,7 @@
 //! Bytes and constants in the storage.
 ghost use Rattle.std.specs.Prelude.{◌≡◌, ◌+◌, ◌%◌, ◌<◌, ◌≤◌, ◌^◌, length, take, slice_index};
 ghost use Rattle.byteorder.specs.Endian.{big_number, big_bytes};
-ghost use Rattle.esa_model.specs.Image.{added, bytes_from};
+ghost use Rattle.deck_model.specs.Image.{added, bytes_from};
 ghost use Rattle.deck_loader.specs.Written.{stored, relocated};
 
 use abs_storage::AbsStorage;

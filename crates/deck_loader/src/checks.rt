@@ -1,7 +1,7 @@
 //! The refusals past those of doubled ESDIDs and names, each the first of its list.
 ghost use Rattle.std.specs.Prelude.{◌≡◌, IfOk, IfErr, OnOk, Some, None};
 ghost use Rattle.std.specs.List.{find, list_any};
-ghost use Rattle.esa_model.specs.Image.{is_section_found, is_unknown, is_unresolved, is_text_outside, is_constant_outside, entry, has_no_room, use_number, item_number, text_number, relocation_number, later_violation};
+ghost use Rattle.deck_model.specs.Image.{is_section_found, is_unknown, is_unresolved, is_text_outside, is_constant_outside, entry, has_no_room, use_number, item_number, text_number, relocation_number, later_violation};
 ghost use Rattle.deck_loader.specs.Indexed.{IndexesIds, IndexesNames, IndexesSections};
 ghost use Rattle.deck_loader.specs.Listed.{listed};
 
@@ -10,8 +10,8 @@ use crate::listing::Lists;
 use crate::lookup::{item_by_id, item_by_name, section_by_id};
 use crate::place::is_section_sort;
 use byteorder::{BigEndian, ByteOrder};
-use esa_model::cards::Sort;
-use esa_model::decks::{DeckRefusal, Item, Placed, Relocation, Text, Use};
+use deck_model::cards::Sort;
+use deck_model::decks::{DeckRefusal, Item, Placed, Relocation, Text, Use};
 use std::collections::BTreeMap;
 
 fn is_section_item(found: Option<Item>) -> bool
@@ -133,7 +133,7 @@ fn no_room(size: u32, placed: &[Placed]) -> bool
 }
 
 /// The entry, or the first refusal past those of doubled ESDIDs and names.
-#[tactic(auto, unfolding(esa_model::specs::Image::later_violation))]
+#[tactic(auto, unfolding(deck_model::specs::Image::later_violation))]
 pub fn checked_entry(
     size: u32,
     lists: &Lists,
@@ -145,7 +145,8 @@ pub fn checked_entry(
     requires sections { IndexesSections placed.now sections.now }
     requires ids { IndexesIds lists.now.items.items ids.now }
     requires names { IndexesNames lists.now.items.items by_name.now }
-    ensures refused { IfErr result (λ r. later_violation size (listed lists.now) placed.now ≡ Some r) }
+    ensures refused { IfErr result (λ r.
+        later_violation size (listed lists.now) placed.now ≡ Some r) }
     ensures accepted { OnOk result (later_violation size (listed lists.now) placed.now ≡ None) }
     ensures entry { IfOk result (λ e. entry placed.now lists.now.entries.items ≡ Some e) }
 {

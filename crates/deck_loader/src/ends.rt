@@ -2,12 +2,12 @@
 ghost use Rattle.std.specs.Prelude.{◌≡◌, ◌≤◌, ◌<◌, ◌+◌, ℕ, length, max, IfOk, OnOk, if◌then◌else◌, ◌==◌};
 ghost use Rattle.std.specs.BTreeMap.{get};
 ghost use Rattle.std.specs.Ordering.{nat_cmp};
-ghost use Rattle.esa_model.specs.Image.{or_zero};
+ghost use Rattle.deck_model.specs.Image.{or_zero};
 ghost use Rattle.deck_loader.specs.Keys.{item_key};
 ghost use Rattle.deck_loader.specs.Indexed.{KeepsEnds};
 
 use crate::keys::key_of;
-use esa_model::decks::Text;
+use deck_model::decks::Text;
 use std::alloc::{AllocError, Global};
 use std::collections::BTreeMap;
 
@@ -38,7 +38,8 @@ pub fn end_at(ends: &BTreeMap<u64, u64>, key: u64) -> u64
 
 // Keeps the greater of two ends under a key.
 fn keep_end(ends: &mut BTreeMap<u64, u64>, key: u64, end: u64) -> Result<(), AllocError>
-    ensures { OnOk result ((q : ℕ) → or_zero (get nat_cmp ends.new q) ≡ max (if key == q then end else 0) (or_zero (get nat_cmp ends.old q))) }
+    ensures { OnOk result ((q : ℕ) → or_zero (get nat_cmp ends.new q)
+        ≡ max (if key == q then end else 0) (or_zero (get nat_cmp ends.old q))) }
 {
     let far = end_at(ends, key).max(end);
     ends.insert(key, far)?;

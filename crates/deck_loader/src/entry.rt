@@ -1,11 +1,11 @@
 //! The entry of a deck.
 ghost use Rattle.std.specs.Prelude.{◌≡◌};
 ghost use Rattle.std.specs.List.{find};
-ghost use Rattle.esa_model.specs.Image.{entry, entry_of, default_entry, has_length};
+ghost use Rattle.deck_model.specs.Image.{entry, entry_of, default_entry, has_length};
 ghost use Rattle.deck_loader.specs.Indexed.{IndexesSections};
 
 use crate::lookup::section_by_id;
-use esa_model::decks::{Entry, Placed};
+use deck_model::decks::{Entry, Placed};
 use std::collections::BTreeMap;
 
 fn default_entry_of(placed: &[Placed]) -> Option<u64>
@@ -34,7 +34,8 @@ fn entry_at(placed: &[Placed], sections: &BTreeMap<u64, usize>, e: &Entry) -> Op
     Some(p.at + offset)
 }
 
-/// The first entry that an END card names, else the first section that has a length; None exactly outside.
+/// The first entry that an END card names, else the first section that has a length; None exactly
+/// outside.
 pub fn entry_in(
     placed: &[Placed],
     sections: &BTreeMap<u64, usize>,

@@ -18,7 +18,8 @@ pub struct Index {
 // Keeps the place of a key that the map has not. Whether it had it.
 fn add_key(places: &mut BTreeMap<u64, usize>, key: u64, i: usize) -> Result<bool, AllocError>
     ensures had { IfOk result (λ had. had ≡ is_some (get nat_cmp places.old key)) }
-    ensures adds { OnOk result ((q : ℕ) → get nat_cmp places.new q ≡ or_then (get nat_cmp places.old q) (if key == q then Some i else None)) }
+    ensures adds { OnOk result ((q : ℕ) → get nat_cmp places.new q
+        ≡ or_then (get nat_cmp places.old q) (if key == q then Some i else None)) }
 {
     if places.contains_key(&key) {
         return Ok(true);

@@ -4,8 +4,8 @@ ghost use Rattle.deck_loader.specs.Keys.{item_key};
 ghost use Rattle.deck_loader.specs.ItemKeys.{id_key, name_key, placed_key};
 
 use byteorder::{BigEndian, ByteOrder};
-use esa_model::cards::Sort;
-use esa_model::decks::{Item, Placed};
+use deck_model::cards::Sort;
+use deck_model::decks::{Item, Placed};
 use std::alloc::{AllocError, Global};
 
 /// An ESDID with its module as one number.

@@ -16,5 +16,5 @@ mod pushes;
 mod tests;
 mod write;
 
-pub use esa_model::decks::{DeckRefusal, Loaded};
+pub use deck_model::decks::{DeckRefusal, Loaded};
 pub use loading::load;

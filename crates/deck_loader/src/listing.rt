@@ -1,14 +1,14 @@
 //! A deck read card by card.
 ghost use Rattle.std.specs.Prelude.{◌≡◌, ◌+◌, ◌-◌, ◌*◌, ◌/◌, ◌%◌, ◌<◌, ◌≤◌, ◌^◌, length, take, drop, IfOk, IsTrue, false, if◌then◌else◌};
-ghost use Rattle.esa_model.specs.Card.{card_of};
-ghost use Rattle.esa_model.specs.CardWriting.{card_fits};
-ghost use Rattle.esa_model.specs.Deck.{is_end, card_refusal, listing};
+ghost use Rattle.deck_model.specs.Card.{card_of};
+ghost use Rattle.deck_model.specs.CardWriting.{card_fits};
+ghost use Rattle.deck_model.specs.Deck.{is_end, card_refusal, listing};
 ghost use Rattle.deck_loader.specs.Listed.{listed, no_listing, with_card, with_entry, ReadsAs, WidthsFit};
 
 use crate::pushes::{push_items, push_label_uses, push_pointer_uses, push_relocations};
 use card_deck::read_card;
-use esa_model::cards::{Card, CardRefusal, EntryPoint};
-use esa_model::decks::{DeckRefusal, Entry, Item, Relocation, Text, Use};
+use deck_model::cards::{Card, CardRefusal, EntryPoint};
+use deck_model::decks::{DeckRefusal, Entry, Item, Relocation, Text, Use};
 use std::alloc::{AllocError, Global};
 
 /// A deck as lists.

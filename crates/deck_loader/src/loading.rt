@@ -1,6 +1,6 @@
 //! A deck loaded into a storage.
 ghost use Rattle.std.specs.Prelude.{◌≡◌, ◌<◌, ◌≤◌, ◌^◌, length, replicate, IfOk, Ok, None};
-ghost use Rattle.esa_model.specs.Image.{image, image_of, image_byte, bytes_from, places, later_violation};
+ghost use Rattle.deck_model.specs.Image.{image, image_of, image_byte, bytes_from, places, later_violation};
 ghost use Rattle.deck_loader.specs.Indexed.{IndexesIds, IndexesNames, IndexesSections};
 ghost use Rattle.deck_loader.specs.Listed.{listed, WidthsFit, TextsAreUsed};
 ghost use Rattle.deck_loader.specs.Loaded.{Loads};
@@ -12,7 +12,7 @@ use crate::lookup::{index_ids, index_names, index_sections};
 use crate::place::place_sections;
 use crate::write::{relocate_all, write_texts};
 use abs_storage::AbsStorage;
-use esa_model::decks::{DeckRefusal, Loaded, Placed};
+use deck_model::decks::{DeckRefusal, Loaded, Placed};
 use std::alloc::Global;
 use std::collections::BTreeMap;
 
@@ -34,7 +34,8 @@ fn carry_out(
     requires used { TextsAreUsed (listed lists.now) }
     requires placed { placed.now ≡ places 65536 (listed lists.now) }
     requires accepted { later_violation (length storage.old) (listed lists.now) placed.now ≡ None }
-    ensures { storage.new ≡ bytes_from (image_byte (listed lists.now) placed.now) 0 (length storage.old) }
+    ensures { storage.new
+        ≡ bytes_from (image_byte (listed lists.now) placed.now) 0 (length storage.old) }
 {
     write_texts(storage, placed, sections, &lists.texts);
     relocate_all(
@@ -53,7 +54,8 @@ fn load_lists(alloc: Global, lists: &Lists, storage: &mut AbsStorage) -> Result<
     requires widths { WidthsFit lists.now.relocations.items }
     requires used { TextsAreUsed (listed lists.now) }
     requires zero { storage.old ≡ replicate (length storage.old) 0 }
-    ensures image { Loads (image_of 65536 (length storage.old) (Ok (listed lists.now))) storage.old storage.new result }
+    ensures image { Loads (image_of 65536 (length storage.old) (Ok (listed lists.now)))
+        storage.old storage.new result }
     ensures inside { IfOk result (λ l. l.address < length storage.old) }
 {
     let ids = index_ids(alloc, &lists.items)?;
@@ -69,8 +71,9 @@ fn load_lists(alloc: Global, lists: &Lists, storage: &mut AbsStorage) -> Result<
     })
 }
 
-/// Puts the image of a deck into a storage of zeros, from X'10000' on, and gives its entry; or gives the
-/// first violation of the deck and leaves the storage. Memory may be wanting at any point.
+/// Puts the image of a deck into a storage of zeros, from X'10000' on, and gives its entry; or
+/// gives the first violation of the deck and leaves the storage. Memory may be wanting at any
+/// point.
 pub fn load(alloc: Global, deck: &[u8], storage: &mut AbsStorage) -> Result<Loaded, DeckRefusal>
     requires deck { length deck.now < 2 ^ 32 }
     requires zero { storage.old ≡ replicate (length storage.old) 0 }

@@ -1,15 +1,15 @@
 //! Items and sections found by their ESDIDs and names.
 ghost use Rattle.std.specs.Prelude.{◌≡◌, ◌<◌, ◌^◌, All, IfOk, IfErr, MatchResult, None};
 ghost use Rattle.std.specs.List.{find};
-ghost use Rattle.esa_model.specs.Image.{has_id, defines, section, or_nowhere, item_number, first_doubled, same_id, same_name};
+ghost use Rattle.deck_model.specs.Image.{has_id, defines, section, or_nowhere, item_number, first_doubled, same_id, same_name};
 ghost use Rattle.deck_loader.specs.Keys.{at_place};
 ghost use Rattle.deck_loader.specs.Indexed.{IndexesIds, IndexesNames, IndexesSections};
 ghost use Rattle.deck_loader.specs.Listed.{IdsOrDoubled, NamesOrDoubled};
 
 use crate::index::index_of;
 use crate::keys::{id_keys, key_of, name_keys, placed_keys};
-use esa_model::cards::{EsdItem, Sort};
-use esa_model::decks::{DeckRefusal, Item, Placed};
+use deck_model::cards::{EsdItem, Sort};
+use deck_model::decks::{DeckRefusal, Item, Placed};
 use std::alloc::{AllocError, Global};
 use std::collections::BTreeMap;
 

@@ -1,13 +1,13 @@
 //! Sections at their places.
 ghost use Rattle.std.specs.Prelude.{◌≡◌, ◌<◌, ◌≤◌, ◌^◌, length, All, IfOk};
-ghost use Rattle.esa_model.specs.Deck.{is_section};
-ghost use Rattle.esa_model.specs.Image.{length_of, place};
+ghost use Rattle.deck_model.specs.Deck.{is_section};
+ghost use Rattle.deck_model.specs.Image.{length_of, place};
 ghost use Rattle.deck_loader.specs.Indexed.{KeepsEnds};
 
 use crate::ends::end_at;
 use crate::keys::key_of;
-use esa_model::cards::Sort;
-use esa_model::decks::{Item, Placed, Text};
+use deck_model::cards::Sort;
+use deck_model::decks::{Item, Placed, Text};
 use std::alloc::{AllocError, Global};
 use std::collections::BTreeMap;
 

@@ -1,12 +1,12 @@
 //! What a card adds to the lists of a deck.
 ghost use Rattle.std.specs.Prelude.{◌≡◌, ◌+◌, ◌≤◌, ◌++◌, length, OnOk, IsTrue};
 ghost use Rattle.std.specs.List.{list_all};
-ghost use Rattle.esa_model.specs.CardWriting.{rld_item_fits};
-ghost use Rattle.esa_model.specs.Deck.{esd_list, label_uses, rld_list, pointer_uses, is_label};
+ghost use Rattle.deck_model.specs.CardWriting.{rld_item_fits};
+ghost use Rattle.deck_model.specs.Deck.{esd_list, label_uses, rld_list, pointer_uses, is_label};
 ghost use Rattle.deck_loader.specs.Listed.{WidthsFit};
 
-use esa_model::cards::{EsdItem, RldItem, Sort};
-use esa_model::decks::{Item, Relocation, Use};
+use deck_model::cards::{EsdItem, RldItem, Sort};
+use deck_model::decks::{Item, Relocation, Use};
 use std::alloc::AllocError;
 
 fn is_label_sort(sort: Sort) -> bool
@@ -26,7 +26,8 @@ pub fn push_items(
     list: &[EsdItem],
 ) -> Result<(), AllocError>
     requires { length list.now ≤ 3 }
-    ensures items { OnOk result (items.new.items ≡ items.old.items ++ esd_list number owner first list.now) }
+    ensures items { OnOk result (items.new.items
+        ≡ items.old.items ++ esd_list number owner first list.now) }
     ensures few { OnOk result (length items.new.items ≤ length items.old.items + 3) }
 {
     let mut id = u32::from(first);
@@ -75,7 +76,8 @@ pub fn push_relocations(
 ) -> Result<(), AllocError>
     requires fit { IsTrue (list_all rld_item_fits list.now) }
     requires widths { WidthsFit relocations.old.items }
-    ensures items { OnOk result (relocations.new.items ≡ relocations.old.items ++ rld_list number owner list.now) }
+    ensures items { OnOk result (relocations.new.items
+        ≡ relocations.old.items ++ rld_list number owner list.now) }
     ensures widths { OnOk result (WidthsFit relocations.new.items) }
 {
     let mut rest = list;

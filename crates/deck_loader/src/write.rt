@@ -1,6 +1,6 @@
 //! Texts and relocations carried out on the storage.
 ghost use Rattle.std.specs.Prelude.{◌≡◌, ◌≤◌, length};
-ghost use Rattle.esa_model.specs.Image.{text_at, constant_at, load_address, defined_at, value_by, value};
+ghost use Rattle.deck_model.specs.Image.{text_at, constant_at, load_address, defined_at, value_by, value};
 ghost use Rattle.deck_loader.specs.Indexed.{IndexesIds, IndexesNames, IndexesSections};
 ghost use Rattle.deck_loader.specs.Written.{written, relocate, AreInside, ConstantsAreInside};
 
@@ -8,8 +8,8 @@ use crate::bytes::{relocate_one, store_all};
 use crate::lookup::{item_by_id, item_by_name, section_by_id};
 use abs_storage::AbsStorage;
 use byteorder::{BigEndian, ByteOrder};
-use esa_model::cards::Sort;
-use esa_model::decks::{Item, Placed, Relocation, Text};
+use deck_model::cards::Sort;
+use deck_model::decks::{Item, Placed, Relocation, Text};
 use std::collections::BTreeMap;
 
 fn text_place(placed: &[Placed], sections: &BTreeMap<u64, usize>, t: &Text) -> u64

@@ -4,9 +4,10 @@
 use Rattle.std.specs.Prelude.{ℕ, ◌+◌, ◌*◌, ◌/◌, ◌%◌, ◌^◌, nat_lt, nat_le, ◌==◌, if◌then◌else◌, List, [], ◌∷◌, ◌++◌, Bool, true, false, not, ◌&&◌, ◌||◌, length, map, slice_get, slice_index, slice_set}
 use Rattle.std.specs.Option.{unwrap_or}
 use Rattle.std.specs.List.{range_with_len}
+use Rattle.esa_model.specs.declared.codes.TheConstants.{ADDRESSING, PROTECTION}
 use Rattle.esa_model.specs.declared.machine.Registers.{Registers}
 use Rattle.esa_model.specs.Psw.{wrapped, key_of}
-use Rattle.esa_model.specs.Word.{first_code}
+use Rattle.esa_model.specs.Word.{first_code, bits}
 
 -- the bytes, and a key for each block of 4096 bytes
 pub record Memory : Type 0 where
@@ -48,18 +49,18 @@ written r at (x ∷ xs) storage = written r (at + 1) xs (slice_set storage (plac
 
 -- control register 0, bit 3: low-address protection
 abbrev pub protects_low : Registers → Bool
-protects_low r = slice_index r.control 0 / 2 ^ 28 % 2 == 1
+protects_low r = bits (slice_index r.control 0) 3 3 == 1
 
 -- what a block's key allows to the PSW's key: bits 0-3 are the access key, bit 4 is fetch protection
 abbrev pub allows : Bool → ℕ → ℕ → Bool
 allows store psw_key key = psw_key == 0 || (key / 16 == psw_key || (not store && key / 8 % 2 == 0))
 
--- whether a byte may be accessed: 5 outside the storage, 4 by protection, or 0
+-- why a byte may not be accessed: addressing outside the storage, protection, or 0
 unfoldable pub permit : Registers → Memory → Bool → ℕ → ℕ
 permit r m store n =
-    if nat_le (length m.storage) (place r n) then 5 else
-    if store && (protects_low r && nat_lt (real r n) 512) then 4 else
-    if allows store (key_of r.psw) (unwrap_or (slice_get m.keys (place r n / 4096)) 0) then 0 else 4
+    if nat_le (length m.storage) (place r n) then ADDRESSING else
+    if store && (protects_low r && nat_lt (real r n) 512) then PROTECTION else
+    if allows store (key_of r.psw) (unwrap_or (slice_get m.keys (place r n / 4096)) 0) then 0 else PROTECTION
 
 -- ---- operands
 
@@ -98,7 +99,7 @@ refused r m os =
     then first_code (in_turn (codes r m os.first) (codes r m os.second))
     else first_code (first_code (codes r m os.first) ∷ first_code (codes r m os.second) ∷ [])
 
--- ---- referenced blocks, each once, in the order of their first use
+-- ---- referenced blocks, each once: those of the first operand before those of the second, of each in the order of use
 
 abbrev pub has : ℕ → List ℕ → Bool
 has b [] = false

@@ -1,14 +1,12 @@
 -- Carrying out what a packet says, whatever its 512 bytes are.
 -- Source: choice of this project. What lies outside its range is ignored.
-use Rattle.std.specs.Prelude.{ℕ, ◌+◌, ◌/◌, ◌==◌, nat_lt, nat_le, ◌&&◌, Bool, if◌then◌else◌, List, [], ◌∷◌, ◌++◌, take, drop, length, slice_set}
+use Rattle.std.specs.Prelude.{ℕ, ◌+◌, ◌/◌, ◌==◌, nat_le, ◌&&◌, Bool, if◌then◌else◌, List, [], ◌∷◌, ◌++◌, take, drop, length, slice_set}
 use Rattle.esa_model.specs.declared.machine.Registers.{Registers}
-use Rattle.esa_model.specs.Access.{written}
 use Rattle.esa_model.specs.Bus.{taken}
 use Rattle.esa_model.specs.SigpAnswers.{after_order}
-use Rattle.esa_model.specs.Unit.{Done, interrupted}
-use Rattle.esa_model.specs.Machine.{Machine, at, changed, reference_all, with_key, with_change, key_at, old_bytes, identification_bytes}
-use Rattle.esa_model.specs.Places.{old_at, identification_at}
+use Rattle.esa_model.specs.Machine.{Machine, at, swap_stored, swap_changed, reference_all, with_key, with_change, key_at}
 use Rattle.esa_model.specs.Packet.{Fields, read}
+use Rattle.esa_model.specs.PacketCodes.{interruption_of, taken_of, key_set_of}
 
 -- bytes stored from an absolute address on, and the keys of their blocks
 abbrev pub put_all : ℕ → List ℕ → List ℕ → List ℕ
@@ -36,25 +34,19 @@ first_bytes f = take f.first_len f.tail
 abbrev pub second_bytes : Fields → List ℕ
 second_bytes f = take f.second_len (drop f.first_len f.tail)
 
--- the swap of PSWs that the packet tells; a kind above 4 is none
-abbrev pub swap : Fields → Done
-swap f = interrupted (record f.registers { psw = f.old }) (if nat_lt f.kind 5 then f.kind else 0) f.identification []
-
 -- a count above 8 tells no block
 abbrev pub told_blocks : Fields → List ℕ
 told_blocks f = if nat_le f.block_count 8 then take f.block_count f.blocks else []
 
 unfoldable pub applied_storage : Registers → Fields → List ℕ → List ℕ
 applied_storage r f storage =
-    written r (identification_at (swap f).kind) (identification_bytes (swap f))
-    (written r (old_at (swap f).kind) (old_bytes (swap f))
-    (piece f.second_at (second_bytes f) (piece f.first_at (first_bytes f) storage)))
+    swap_stored r (interruption_of f.kind) f.old f.identification
+    (piece f.second_at (second_bytes f) (piece f.first_at (first_bytes f) storage))
 
 unfoldable pub applied_keys : Registers → Fields → ℕ → List ℕ → List ℕ
 applied_keys r f size keys =
-    changed r size (identification_at (swap f).kind) (identification_bytes (swap f))
-    (changed r size (old_at (swap f).kind) (old_bytes (swap f))
-    (piece_keys size f.second_at (second_bytes f) (piece_keys size f.first_at (first_bytes f) (reference_all (told_blocks f) keys))))
+    swap_changed r (interruption_of f.kind) f.old f.identification size
+    (piece_keys size f.second_at (second_bytes f) (piece_keys size f.first_at (first_bytes f) (reference_all (told_blocks f) keys)))
 
 -- bytes for the console: a write of at most 256
 abbrev pub console_out : Fields → List ℕ
@@ -67,11 +59,12 @@ console_in f left = if f.console == 2 && (nat_le f.count 256 && nat_le f.count l
 unfoldable pub carried_out : Machine → ℕ → Fields → Machine
 carried_out m i f = record {
   storage = applied_storage (m.registers i) f m.storage;
-  keys = with_key f.block f.key (applied_keys (m.registers i) f (length m.storage) m.keys);
+  keys = with_key (key_set_of f.block f.key) (applied_keys (m.registers i) f (length m.storage) m.keys);
+  clock = m.clock;
   console = drop (console_in f (length m.console)) m.console;
   console_read = m.console_read + console_in f (length m.console);
   console_written = m.console_written ++ console_out f;
-  bus = after_order f.order i f.order_to (taken f.request f.sender i m.bus);
+  bus = after_order f.order i f.order_to (taken (taken_of f.request f.sender) i m.bus);
   registers = at m.registers i f.registers;
 }
 

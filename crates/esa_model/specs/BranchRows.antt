@@ -6,8 +6,8 @@ use Rattle.std.specs.Prelude.{ℕ, ◌+◌, ◌-◌, ◌*◌, ◌/◌, ◌%◌, 
 use Rattle.esa_model.specs.declared.machine.Psw.{Psw}
 use Rattle.esa_model.specs.declared.machine.Registers.{Registers}
 use Rattle.esa_model.specs.declared.instructions.Decoded.{Decoded}
-use Rattle.esa_model.specs.Word.{signed}
-use Rattle.esa_model.specs.Psw.{code_of, program_mask, is_wide, with_address, wrapped}
+use Rattle.esa_model.specs.Word.{signed, bits}
+use Rattle.esa_model.specs.Psw.{code_of, program_mask, with_code_and_mask, is_wide, mode_bit, in_mode, with_address, wrapped}
 
 abbrev pub first : Registers → Decoded → ℕ
 first r d = slice_index r.general d.r1
@@ -64,19 +64,15 @@ branch_and_save_register next r d = branch_and_save next (register_target r d ne
 
 -- ---- the addressing mode
 
--- the PSW in the mode of a word's bit 0, at its address in that mode
-unfoldable pub in_mode_of : Psw → ℕ → Psw
-in_mode_of p word = record p { w1 = if word / 2 ^ 31 == 1 then word else word % 2 ^ 24 }
-
 -- mode and branch by R2; register number 0 does neither
 abbrev pub by_mode : Registers → Decoded → ℕ → Psw
-by_mode r d next = if d.r2 == 0 then at_address r.psw next else in_mode_of r.psw (second r d)
+by_mode r d next = if d.r2 == 0 then at_address r.psw next else in_mode r.psw (second r d)
 
 -- BSM: the mode becomes bit 0 of R1; register number 0 keeps none
 unfoldable pub branch_and_set_mode : ℕ → Registers → Decoded → Registers
 branch_and_set_mode next r d =
     if d.r1 == 0 then with_psw r (by_mode r d next)
-    else with_first r d (r.psw.w1 / 2 ^ 31 * 2 ^ 31 + first r d % 2 ^ 31) (by_mode r d next)
+    else with_first r d (mode_bit r.psw * 2 ^ 31 + first r d % 2 ^ 31) (by_mode r d next)
 
 -- BASSM
 unfoldable pub branch_and_save_and_set_mode : ℕ → Registers → Decoded → Registers
@@ -137,8 +133,7 @@ branch_on_index_low_or_equal next target r d =
 -- SPM: condition code and program mask from bits 2-3 and 4-7 of R1
 unfoldable pub set_program_mask : ℕ → Registers → Decoded → Registers
 set_program_mask next r d =
-    let p = at_address r.psw next in
-    with_psw r (record p { w0 = p.w0 / 2 ^ 14 * 2 ^ 14 + first r d / 2 ^ 24 % 2 ^ 6 * 2 ^ 8 + p.w0 % 2 ^ 8 })
+    with_psw r (with_code_and_mask (at_address r.psw next) (bits (first r d) 2 7))
 
 -- IPM: bits 0-7 of R1 become 00, condition code, program mask
 unfoldable pub insert_program_mask : ℕ → Registers → Decoded → Registers

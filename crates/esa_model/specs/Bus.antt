@@ -6,7 +6,12 @@ use Rattle.std.specs.Option.{unwrap_or}
 use Rattle.esa_model.specs.declared.machine.CpuNo.{CpuNo}
 use Rattle.esa_model.specs.declared.machine.CpuState.{CpuState}
 use Rattle.esa_model.specs.declared.machine.CpuState.TheVariants.{Operating, Stopped, CheckStop}
+use Rattle.esa_model.specs.declared.machine.Request.{Request}
+use Rattle.esa_model.specs.declared.machine.Request.TheVariants.{Key, Malfunction, Emergency, ExternalCall, Comparator, Timer}
 use Rattle.esa_model.specs.declared.machine.Signals.{Signals}
+use Rattle.esa_model.specs.declared.events.SentOrder.{SentOrder}
+use Rattle.esa_model.specs.declared.events.Taken.{Taken}
+use Rattle.esa_model.specs.declared.events.Taken.TheVariants as taking
 
 -- a CPU's number as the code has it
 abbrev pub cpu_no : ℕ → CpuNo
@@ -36,18 +41,23 @@ abbrev pub call_without : ℕ → Option CpuNo → Option CpuNo
 call_without sender None = None
 call_without sender (Some c) = if c.0 == sender then None else Some c
 
--- a request that is taken is no longer pending; a restart that is taken makes the CPU operating.
--- Numbers as in packets: 0 none, 1 key, 2 malfunction alert, 3 emergency signal, 4 external call, 5 restart.
-abbrev pub without : ℕ → ℕ → Signals → Signals
-without request sender s =
-    if request == 1 then record s { key = false } else
-    if request == 2 then record s { malfunction = slice_set s.malfunction sender false } else
-    if request == 3 then record s { emergency = slice_set s.emergency sender false } else
-    if request == 4 then record s { external_call = call_without sender s.external_call } else
-    if request == 5 then record s { restart = false; state = Operating } else s
+-- a request that is taken is no longer pending; the clock's and the timer's are not signals, and stay as long as they hold
+abbrev pub without : Request → Signals → Signals
+without Key s = record s { key = false }
+without (Malfunction c) s = record s { malfunction = slice_set s.malfunction c.0 false }
+without (Emergency c) s = record s { emergency = slice_set s.emergency c.0 false }
+without (ExternalCall c) s = record s { external_call = call_without c.0 s.external_call }
+without Comparator s = s
+without Timer s = s
 
-unfoldable pub taken : ℕ → ℕ → ℕ → List Signals → List Signals
-taken request sender i bus = with_signals bus i (without request sender (signals_of bus i))
+-- what is taken; a restart that is taken makes the CPU operating
+abbrev pub after_taking : Option Taken → Signals → Signals
+after_taking None s = s
+after_taking (Some (taking.Request q)) s = without q s
+after_taking (Some taking.Restart) s = record s { restart = false; state = Operating }
+
+unfoldable pub taken : Option Taken → ℕ → List Signals → List Signals
+taken t i bus = with_signals bus i (after_taking t (signals_of bus i))
 
 -- an order that was accepted: 2 external call, 3 emergency signal, 4 start, 5 stop, 6 restart; any other does nothing
 abbrev pub ordered : ℕ → ℕ → Signals → Signals
@@ -60,6 +70,11 @@ ordered order sender s =
 
 unfoldable pub signalled : ℕ → ℕ → ℕ → List Signals → List Signals
 signalled order sender to bus = with_signals bus to (ordered order sender (signals_of bus to))
+
+-- an order that an event of a CPU sends, if it sends one
+abbrev pub after_sending : Option SentOrder → ℕ → List Signals → List Signals
+after_sending None sender bus = bus
+after_sending (Some o) sender bus = signalled o.order sender o.to bus
 
 -- the interrupt key
 unfoldable pub keyed : ℕ → List Signals → List Signals

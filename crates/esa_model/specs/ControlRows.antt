@@ -5,11 +5,11 @@
 use Rattle.std.specs.Prelude.{ℕ, ◌+◌, ◌-◌, ◌*◌, ◌/◌, ◌%◌, ◌^◌, nat_lt, ◌==◌, ◌||◌, if◌then◌else◌, List, [], ◌∷◌, Bool, true, false, Option, Some, None, map, drop, slice_index, slice_set, bit_and, bit_or}
 use Rattle.std.specs.List.{range_with_len, flat_map}
 use Rattle.byteorder.specs.Endian.{big_number, big_bytes}
-use Rattle.esa_model.specs.declared.machine.Psw.{Psw}
+use Rattle.esa_model.specs.declared.codes.TheConstants.{ADDRESSING, SPECIFICATION}
 use Rattle.esa_model.specs.declared.machine.Registers.{Registers}
 use Rattle.esa_model.specs.declared.instructions.Decoded.{Decoded}
-use Rattle.esa_model.specs.Psw.{with_code}
-use Rattle.esa_model.specs.Line.{second_at}
+use Rattle.esa_model.specs.Psw.{with_code, system_mask, with_system_mask}
+use Rattle.esa_model.specs.Line.{second_at, register_count}
 
 -- what a row does: the registers after it, without an advance of the instruction address, the bytes that it stores
 -- from the front of its operand on, the key that it sets, and the program code that suppresses it, or 0
@@ -28,34 +28,28 @@ keeps r bytes = record { registers = r; stored = bytes; set_key = None; fault = 
 abbrev pub suppresses : Registers → ℕ → Control
 suppresses r fault = record { registers = r; stored = []; set_key = None; fault = fault }
 
--- ---- the system mask: bits 0-7 of the PSW
+-- ---- the system mask
 
-abbrev pub system_mask : Psw → ℕ
-system_mask p = p.w0 / 2 ^ 24
-
-abbrev pub with_system_mask : Registers → ℕ → Registers
-with_system_mask r mask = record r { psw = record r.psw { w0 = mask * 2 ^ 24 + r.psw.w0 % 2 ^ 24 } }
+abbrev pub with_mask : Registers → ℕ → Registers
+with_mask r mask = record r { psw = with_system_mask r.psw mask }
 
 -- X'80' SSM: the mask from the byte
 unfoldable pub set_system_mask : Registers → List ℕ → Control
-set_system_mask r operand = changes (with_system_mask r (slice_index operand 0))
+set_system_mask r operand = changes (with_mask r (slice_index operand 0))
 
 -- X'AC' STNSM: the mask is stored, then and-ed with I2
 unfoldable pub store_then_and : Registers → Decoded → Control
-store_then_and r d = keeps (with_system_mask r (bit_and (system_mask r.psw) (d.imm % 256))) (system_mask r.psw ∷ [])
+store_then_and r d = keeps (with_mask r (bit_and (system_mask r.psw) (d.imm % 256))) (system_mask r.psw ∷ [])
 
 -- X'AD' STOSM: the mask is stored, then or-ed with I2
 unfoldable pub store_then_or : Registers → Decoded → Control
-store_then_or r d = keeps (with_system_mask r (bit_or (system_mask r.psw) (d.imm % 256))) (system_mask r.psw ∷ [])
+store_then_or r d = keeps (with_mask r (bit_or (system_mask r.psw) (d.imm % 256))) (system_mask r.psw ∷ [])
 
 -- X'82' LPSW: both words of the PSW
 unfoldable pub load_psw : Registers → List ℕ → Control
 load_psw r operand = changes (record r { psw = record { w0 = big_number 4 operand; w1 = big_number 4 (drop 4 operand) } })
 
 -- ---- control registers: R1 to R3 in ascending order, 0 after 15
-
-abbrev pub register_count : Decoded → ℕ
-register_count d = (d.r2 + 16 - d.r1) % 16 + 1
 
 -- X'B6' STCTL
 unfoldable pub store_control : Registers → Decoded → Control
@@ -82,7 +76,7 @@ prefix_bits word = word % 2 ^ 31 / 4096 * 4096
 unfoldable pub set_prefix : Registers → ℕ → List ℕ → Control
 set_prefix r size operand =
     let prefix = prefix_bits (big_number 4 operand) in
-    if nat_lt size (prefix + 4096) then suppresses r 5 else changes (record r { prefix = prefix })
+    if nat_lt size (prefix + 4096) then suppresses r ADDRESSING else changes (record r { prefix = prefix })
 
 -- X'B211' STPX
 unfoldable pub store_prefix : Registers → Control
@@ -130,11 +124,22 @@ stored_len op d =
     if op == 0xAC then 1 else if op == 0xAD then 1 else if op == 0xB6 then 4 * register_count d else
     if op == 0xB211 then 4 else if op == 0xB212 then 2 else 0
 
--- the rows of this module
+-- the rows that fetch their operand: SSM LPSW SPX LCTL; that store it: STPX STAP STCTL; that store the system mask: STNSM
+-- STOSM; that are for a key: ISKE RRBE SSKE
+abbrev pub is_fetching : ℕ → Bool
+is_fetching op = op == 0x80 || (op == 0x82 || (op == 0xB210 || op == 0xB7))
+
+abbrev pub is_storing : ℕ → Bool
+is_storing op = op == 0xB211 || (op == 0xB212 || op == 0xB6)
+
+abbrev pub is_mask : ℕ → Bool
+is_mask op = op == 0xAC || op == 0xAD
+
+abbrev pub is_key : ℕ → Bool
+is_key op = op == 0xB229 || (op == 0xB22A || op == 0xB22B)
+
 abbrev pub is_control : ℕ → Bool
-is_control op =
-    op == 0x80 || (op == 0x82 || (op == 0xAC || (op == 0xAD || (op == 0xB6 || (op == 0xB7 ||
-    (op == 0xB210 || (op == 0xB211 || (op == 0xB212 || (op == 0xB229 || (op == 0xB22A || op == 0xB22B))))))))))
+is_control op = is_fetching op || (is_storing op || (is_mask op || is_key op))
 
 -- a row of an operand that is on its boundary
 abbrev pub row_done : ℕ → ℕ → ℕ → ℕ → Registers → Decoded → List ℕ → Control
@@ -155,7 +160,7 @@ row_done op cpu size key r d operand =
 -- a row: an operand that is not on its boundary is a specification exception
 unfoldable pub controlled : ℕ → ℕ → ℕ → ℕ → Registers → Decoded → List ℕ → Control
 controlled op cpu size key r d operand =
-    if is_on_boundary op r d then row_done op cpu size key r d operand else suppresses r 6
+    if is_on_boundary op r d then row_done op cpu size key r d operand else suppresses r SPECIFICATION
 
 -- ---- DIAGNOSE, which is the console: X'100' writes, X'104' reads (true), of 1 to 256 bytes; specification where none
 unfoldable pub console_called : ℕ → ℕ → Option Bool

@@ -7,6 +7,7 @@ use Rattle.std.specs.Int.{is_negative, int_rem_euclid, cast_signed, w32}
 use Rattle.std.specs.List.{list_all}
 use Rattle.esa_model.specs.Packed.{is_packed, magnitude_of, is_negative_field, whole, value_of, written, limit, differ, shifted}
 use Rattle.esa_model.specs.Halves.{moved_halves}
+use Rattle.esa_model.specs.declared.codes.TheConstants.{STAYS, SPECIFICATION, DATA, FIXED_DIVIDE, DECIMAL_OVERFLOW, DECIMAL_DIVIDE}
 use Rattle.esa_model.specs.declared.machine.Value.{Value}
 
 -- the first operand's field and the value after an instruction
@@ -19,12 +20,12 @@ abbrev pub ends : ℕ → ℕ → Value
 ends code fault = record { word = 0; low = 0; cc = code; fault = fault }
 
 abbrev pub suppressed : List ℕ → ℕ → Decimal
-suppressed field fault = record { field = field; value = ends 4 fault }
+suppressed field fault = record { field = field; value = ends STAYS fault }
 
 -- 3 and a decimal overflow where digits are lost, else 0 zero, 1 negative, 2 positive
 abbrev pub sum_value : ℕ → Bool → ℕ → Value
 sum_value n negative m =
-    if nat_le (limit n) m then ends 3 10
+    if nat_le (limit n) m then ends 3 DECIMAL_OVERFLOW
     else (if m == 0 then ends 0 0 else (if negative then ends 1 0 else ends 2 0))
 
 -- an exact result in a field of n bytes: its low digits and its own sign, so that zero is positive,
@@ -38,17 +39,17 @@ stored n z = record {
 unfoldable pub add_row : List ℕ → List ℕ → Decimal
 add_row first second =
     if is_packed first && is_packed second then stored (length first) (value_of first +ℤ value_of second)
-    else suppressed first 7
+    else suppressed first DATA
 
 unfoldable pub subtract_row : List ℕ → List ℕ → Decimal
 subtract_row first second =
     if is_packed first && is_packed second then stored (length first) (value_of first -ℤ value_of second)
-    else suppressed first 7
+    else suppressed first DATA
 
 -- the first operand is not read
 unfoldable pub zero_and_add_row : List ℕ → List ℕ → Decimal
 zero_and_add_row first second =
-    if is_packed second then stored (length first) (value_of second) else suppressed first 7
+    if is_packed second then stored (length first) (value_of second) else suppressed first DATA
 
 -- 0 equal, 1 first low, 2 first high
 abbrev pub order_code : ℤ → ℤ → ℕ
@@ -58,7 +59,7 @@ unfoldable pub compare_row : List ℕ → List ℕ → Decimal
 compare_row first second =
     if is_packed first && is_packed second
     then record { field = first; value = ends (order_code (value_of first) (value_of second)) 0 }
-    else suppressed first 7
+    else suppressed first DATA
 
 -- the second operand has more than 8 bytes, or as many as the first or more
 abbrev pub bad_lengths : List ℕ → List ℕ → Bool
@@ -73,14 +74,14 @@ abbrev pub product : List ℕ → List ℕ → Decimal
 product first second = record {
   field = written (length first) (differ (is_negative_field first) (is_negative_field second))
       (magnitude_of first * magnitude_of second);
-  value = ends 4 0;
+  value = ends STAYS 0;
 }
 
 unfoldable pub multiply_row : List ℕ → List ℕ → Decimal
 multiply_row first second =
-    if bad_lengths first second then suppressed first 6
+    if bad_lengths first second then suppressed first SPECIFICATION
     else (if (is_packed first && is_packed second) && has_room first second then product first second
-    else suppressed first 7)
+    else suppressed first DATA)
 
 -- the divisor is not zero, and the quotient fits the bytes that the remainder leaves
 abbrev pub has_quotient : List ℕ → List ℕ → Bool
@@ -94,15 +95,15 @@ quotient_and_remainder first second = record {
   field = written (length first - length second) (differ (is_negative_field first) (is_negative_field second))
       (magnitude_of first / magnitude_of second)
       ++ written (length second) (is_negative_field first) (magnitude_of first % magnitude_of second);
-  value = ends 4 0;
+  value = ends STAYS 0;
 }
 
 unfoldable pub divide_row : List ℕ → List ℕ → Decimal
 divide_row first second =
-    if bad_lengths first second then suppressed first 6
+    if bad_lengths first second then suppressed first SPECIFICATION
     else (if is_packed first && is_packed second
-    then (if has_quotient first second then quotient_and_remainder first second else suppressed first 11)
-    else suppressed first 7)
+    then (if has_quotient first second then quotient_and_remainder first second else suppressed first DECIMAL_DIVIDE)
+    else suppressed first DATA)
 
 -- six bits as a signed number: 0 to 31 to the left, 32 to 63 to the right by 64 less it
 abbrev pub signed_shift : ℕ → ℤ
@@ -113,10 +114,17 @@ shift_row first by round =
     if is_packed first && nat_lt round 10
     then stored (length first)
     (whole (is_negative_field first) (shifted (magnitude_of first) (signed_shift by) round))
-    else suppressed first 7
+    else suppressed first DATA
 
 abbrev pub halves_row : ℕ → List ℕ → List ℕ → Decimal
-halves_row op first second = record { field = moved_halves op first second; value = ends 4 0 }
+halves_row op first second = record { field = moved_halves op first second; value = ends STAYS 0 }
+
+-- MVO PACK UNPK, and with them ZAP CP AP SP MP DP
+abbrev pub is_halves : ℕ → Bool
+is_halves op = (op == 0xF1) || ((op == 0xF2) || (op == 0xF3))
+
+abbrev pub is_two : ℕ → Bool
+is_two op = is_halves op || ((op == 0xF8) || ((op == 0xF9) || ((op == 0xFA) || ((op == 0xFB) || ((op == 0xFC) || (op == 0xFD))))))
 
 -- the instructions of two fields
 unfoldable pub two_row : ℕ → List ℕ → List ℕ → Decimal
@@ -141,11 +149,11 @@ signed_word w = cast_signed w32 w
 abbrev pub word_value : ℤ → Value
 word_value z =
     if int_lt (negsuc 2147483648) z && int_lt z (pos 2147483648)
-    then record { word = unsigned_abs (int_rem_euclid z (pos 4294967296)); low = 0; cc = 4; fault = 0 }
-    else ends 4 9
+    then record { word = unsigned_abs (int_rem_euclid z (pos 4294967296)); low = 0; cc = STAYS; fault = 0 }
+    else ends STAYS FIXED_DIVIDE
 
 unfoldable pub to_binary : List ℕ → Value
-to_binary f = if is_packed f then word_value (value_of f) else ends 4 7
+to_binary f = if is_packed f then word_value (value_of f) else ends STAYS DATA
 
 unfoldable pub to_decimal : ℕ → List ℕ
 to_decimal w = written 8 (is_negative (signed_word w)) (unsigned_abs (signed_word w))

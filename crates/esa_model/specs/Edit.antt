@@ -2,6 +2,7 @@
 -- Source: Principles of Operation, chapter Decimal Instructions.
 -- Choice of this project: a bad digit suppresses, and source bytes that are not used are not looked at.
 use Rattle.std.specs.Prelude.{ℕ, ◌+◌, ◌-◌, ◌/◌, ◌%◌, ◌<◌, ◌≡◌, Bool, true, false, not, ◌&&◌, ◌||◌, ◌==◌, nat_lt, if◌then◌else◌, List, [], ◌∷◌, slice_index, Some, None, fold}
+use Rattle.esa_model.specs.declared.codes.TheConstants.{STAYS, DATA}
 use Rattle.esa_model.specs.declared.decimals.Editing.{Editing}
 use Rattle.esa_model.specs.declared.decimals.SourceDigit.{SourceDigit}
 use Rattle.esa_model.specs.declared.decimals.Edited.{Edited}
@@ -88,7 +89,7 @@ edited_pattern source pattern =
 -- 0 where the last field has no digit other than zero, else 1 with the indicator on, 2 with it off
 unfoldable pub answer : Editing → Edited
 answer e =
-    if e.bad then record { used = e.used; mark = None; cc = 4; fault = 7 }
+    if e.bad then record { used = e.used; mark = None; cc = STAYS; fault = DATA }
     else record {
       used = e.used;
       mark = e.mark;

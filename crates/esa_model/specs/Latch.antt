@@ -32,7 +32,7 @@ latch_of r m UnitOfOperation = unit_latch r m
 
 -- the eight bytes for the event that is due at a CPU
 unfoldable pub latch : Registers → ℕ → List ℕ → Side → List ℕ
-latch r i storage side = latch_of r (record { storage = storage; keys = side.keys }) (due r (signals_of side.bus i))
+latch r i storage side = latch_of r (record { storage = storage; keys = side.keys }) (due r side.clock (signals_of side.bus i))
 
 -- how many of the bits of a byte are one
 abbrev pub ones : ℕ → ℕ → ℕ

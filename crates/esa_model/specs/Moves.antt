@@ -6,6 +6,7 @@ use Rattle.std.specs.declared.cmp.Ordering.{Ordering}
 use Rattle.std.specs.declared.cmp.Ordering.TheVariants.{Less, Equal, Greater}
 use Rattle.std.specs.Ordering.{nat_cmp}
 use Rattle.std.specs.Cmp.Lexicographic.{slice_cmp}
+use Rattle.esa_model.specs.declared.codes.TheConstants.{STAYS}
 use Rattle.esa_model.specs.declared.long_operands.Hit.{Hit}
 
 -- ---- MVN, MVC, MVZ, NC, OC, XC: a byte of the first operand is made of itself and the byte of the second
@@ -51,9 +52,9 @@ moved op to from n area = filled (combined_in op to from) to n area
 abbrev pub is_zero : ℕ → Bool
 is_zero b = b == 0
 
--- NC, OC and XC: 0 where the whole result is zero, else 1; the others leave the condition code, which is written 4
+-- NC, OC and XC: 0 where the whole result is zero, else 1; the others leave the condition code
 unfoldable pub move_code : ℕ → List ℕ → ℕ
-move_code op stored = if (op == 0xD4) || ((op == 0xD6) || (op == 0xD7)) then (if list_all is_zero stored then 0 else 1) else 4
+move_code op stored = if (op == 0xD4) || ((op == 0xD6) || (op == 0xD7)) then (if list_all is_zero stored then 0 else 1) else STAYS
 
 -- ---- CLC
 

@@ -3,11 +3,13 @@
 use Rattle.std.specs.Prelude.{ℕ, zero, suc, ◌+◌, ◌-◌, ◌%◌, ◌==◌, if◌then◌else◌, List, [], ◌∷◌, ◌++◌, take, drop, length, replicate, min, Option, Some, None}
 use Rattle.std.specs.List.{flat_map}
 use Rattle.byteorder.specs.Endian.{big_number, big_bytes}
+use Rattle.esa_model.specs.declared.events.Interruption.{Interruption}
 use Rattle.esa_model.specs.declared.machine.Psw.{Psw}
 use Rattle.esa_model.specs.declared.machine.Registers.{Registers}
 use Rattle.esa_model.specs.Access.{place}
 use Rattle.esa_model.specs.Unit.{Done}
 use Rattle.esa_model.specs.Machine.{registers_after}
+use Rattle.esa_model.specs.PacketCodes.{interruption_number, taken_number, taken_sender, key_block, key_byte, order_number, order_target}
 
 -- the list with these bytes at a place
 unfoldable pub put : ℕ → List ℕ → List ℕ → List ℕ
@@ -78,6 +80,7 @@ parts f =
     (172, big_bytes 4 f.second_at) ∷
     (176, big_bytes 1 f.block_count) ∷
     (178, numbers 2 f.blocks) ∷
+    (196, numbers 8 f.registers.clocks) ∷
     (256, f.tail) ∷
     []
 
@@ -96,6 +99,7 @@ read p = record {
     control = numbers_at 4 16 72 p;
     psw = psw_of 0 p;
     prefix = number_at 4 136 p;
+    clocks = numbers_at 8 4 196 p;
   };
   kind = number_at 1 140 p;
   old = psw_of 142 p;
@@ -139,18 +143,23 @@ abbrev pub console_count : Option ℕ → List ℕ → ℕ
 console_count (Some n) out = n
 console_count None out = length out
 
+-- the PSW that an interruption stores, zeros where nothing interrupts
+abbrev pub old_psw : Option Interruption → Psw → Psw
+old_psw None p = record { w0 = 0; w1 = 0 }
+old_psw (Some k) p = p
+
 unfoldable pub fields : Registers → Done → List ℕ → Fields
 fields r d storage = record {
   registers = registers_after r d storage;
-  kind = d.kind;
-  old = if d.kind == 0 then record { w0 = 0; w1 = 0 } else d.registers.psw;
+  kind = interruption_number d.interruption;
+  old = old_psw d.interruption d.registers.psw;
   identification = d.identification;
-  request = d.request;
-  sender = d.sender;
-  order_to = d.order_to;
-  order = d.order;
-  block = d.block;
-  key = d.key;
+  request = taken_number d.taken;
+  sender = taken_sender d.taken;
+  order_to = order_target d.sent;
+  order = order_number d.sent;
+  block = key_block d.set_key;
+  key = key_byte d.set_key;
   console = console_kind d.console_in d.console_out;
   count = console_count d.console_in d.console_out;
   first_len = first_piece d;

@@ -2,148 +2,175 @@
 -- Source: Principles of Operation, chapters on program execution (instruction formats), general, decimal and
 -- control instructions, and the lists of instructions in the appendix. The number of a row is its place in the
 -- list here, a choice of this project.
-use Rattle.std.specs.Prelude.{ℕ, ◌+◌, ◌*◌, ◌/◌, ◌%◌, nat_lt, ◌==◌, if◌then◌else◌, List, [], ◌∷◌, Bool, true, false, Option, Some, None, codes, slice_get, slice_index, slice_index_or, find, position}
+use Rattle.std.specs.Prelude.{ℕ, ◌+◌, ◌*◌, ◌/◌, ◌%◌, nat_lt, ◌==◌, if◌then◌else◌, List, [], ◌∷◌, Bool, true, false, Option, Some, None, codes, slice_get, slice_index, slice_index_or, find, position, map}
 use Rattle.esa_model.specs.declared.instructions.Form.{Form}
 use Rattle.esa_model.specs.declared.instructions.Form.TheVariants.{Rr, Rx, Rs, Si, S, Ri, Rsi, Rre, Ss1, Ss2}
 use Rattle.esa_model.specs.declared.instructions.Row.{Row}
+use Rattle.esa_model.specs.declared.kinds.Kind.{Kind}
+use Rattle.esa_model.specs.declared.kinds.Kind.TheVariants.{Words, Branches, Stores, Bytes, Decimals, Controls}
+use Rattle.esa_model.specs.declared.kinds.WordKind.TheVariants.{Registers, Pairs, Storage, PairStorage, Halfwords, Immediates, Shifts, PairShifts, Address}
+use Rattle.esa_model.specs.declared.kinds.BranchKind.TheVariants.{ByRegister, ByIndex, ByBase, ByDistance, Call, Execute}
+use Rattle.esa_model.specs.declared.kinds.StoreKind.TheVariants.{Character, Halfword, Word, StoreMultiple, LoadMultiple, InsertCharacter, InsertUnderMask, CompareUnderMask, StoreUnderMask, TestUnderMask, MoveImmediate, CombineImmediate, CompareImmediate, TestAndSet, CompareAndSwap, CompareDoubleAndSwap}
+use Rattle.esa_model.specs.declared.kinds.ByteKind.TheVariants.{Move, Combine, Compare, Translate, TranslateAndTest, MoveInverse, MoveLong, CompareLong}
+use Rattle.esa_model.specs.declared.kinds.DecimalKind.TheVariants.{Fields, Products, Replaced, Compared, Shifted, Edited, EditedAndMarked, ToBinary, ToDecimal}
+use Rattle.esa_model.specs.declared.kinds.ControlKind.TheVariants.{Fetching, Storing, Masks, Keys, Diagnose, Signal, Clock, SetsClock, StoresClock}
 use Rattle.esa_model.specs.declared.instructions.Decoded.{Decoded}
 
-abbrev pub entry : ℕ → Form → List ℕ → Bool → Row
-entry opcode form name privileged = record { opcode = opcode; form = form; name = name; privileged = privileged }
+-- a row, and how it is carried out
+pub record TableRow : Type 0 where
+  pub row : Row
+  pub kind : Kind
+
+abbrev pub entry : ℕ → Form → List ℕ → Bool → Kind → TableRow
+entry opcode form name privileged kind = record {
+  row = record { opcode = opcode; form = form; name = name; privileged = privileged };
+  kind = kind;
+}
 
 -- all rows, ascending by the number of the opcode
-abbrev pub rows : List Row
-rows =
-    entry 0x04 Rr (codes "SPM   ") false ∷
-    entry 0x05 Rr (codes "BALR  ") false ∷
-    entry 0x06 Rr (codes "BCTR  ") false ∷
-    entry 0x07 Rr (codes "BCR   ") false ∷
-    entry 0x0A Rr (codes "SVC   ") false ∷
-    entry 0x0B Rr (codes "BSM   ") false ∷
-    entry 0x0C Rr (codes "BASSM ") false ∷
-    entry 0x0D Rr (codes "BASR  ") false ∷
-    entry 0x0E Rr (codes "MVCL  ") false ∷
-    entry 0x0F Rr (codes "CLCL  ") false ∷
-    entry 0x10 Rr (codes "LPR   ") false ∷
-    entry 0x11 Rr (codes "LNR   ") false ∷
-    entry 0x12 Rr (codes "LTR   ") false ∷
-    entry 0x13 Rr (codes "LCR   ") false ∷
-    entry 0x14 Rr (codes "NR    ") false ∷
-    entry 0x15 Rr (codes "CLR   ") false ∷
-    entry 0x16 Rr (codes "OR    ") false ∷
-    entry 0x17 Rr (codes "XR    ") false ∷
-    entry 0x18 Rr (codes "LR    ") false ∷
-    entry 0x19 Rr (codes "CR    ") false ∷
-    entry 0x1A Rr (codes "AR    ") false ∷
-    entry 0x1B Rr (codes "SR    ") false ∷
-    entry 0x1C Rr (codes "MR    ") false ∷
-    entry 0x1D Rr (codes "DR    ") false ∷
-    entry 0x1E Rr (codes "ALR   ") false ∷
-    entry 0x1F Rr (codes "SLR   ") false ∷
-    entry 0x40 Rx (codes "STH   ") false ∷
-    entry 0x41 Rx (codes "LA    ") false ∷
-    entry 0x42 Rx (codes "STC   ") false ∷
-    entry 0x43 Rx (codes "IC    ") false ∷
-    entry 0x44 Rx (codes "EX    ") false ∷
-    entry 0x45 Rx (codes "BAL   ") false ∷
-    entry 0x46 Rx (codes "BCT   ") false ∷
-    entry 0x47 Rx (codes "BC    ") false ∷
-    entry 0x48 Rx (codes "LH    ") false ∷
-    entry 0x49 Rx (codes "CH    ") false ∷
-    entry 0x4A Rx (codes "AH    ") false ∷
-    entry 0x4B Rx (codes "SH    ") false ∷
-    entry 0x4C Rx (codes "MH    ") false ∷
-    entry 0x4D Rx (codes "BAS   ") false ∷
-    entry 0x4E Rx (codes "CVD   ") false ∷
-    entry 0x4F Rx (codes "CVB   ") false ∷
-    entry 0x50 Rx (codes "ST    ") false ∷
-    entry 0x54 Rx (codes "N     ") false ∷
-    entry 0x55 Rx (codes "CL    ") false ∷
-    entry 0x56 Rx (codes "O     ") false ∷
-    entry 0x57 Rx (codes "X     ") false ∷
-    entry 0x58 Rx (codes "L     ") false ∷
-    entry 0x59 Rx (codes "C     ") false ∷
-    entry 0x5A Rx (codes "A     ") false ∷
-    entry 0x5B Rx (codes "S     ") false ∷
-    entry 0x5C Rx (codes "M     ") false ∷
-    entry 0x5D Rx (codes "D     ") false ∷
-    entry 0x5E Rx (codes "AL    ") false ∷
-    entry 0x5F Rx (codes "SL    ") false ∷
-    entry 0x71 Rx (codes "MS    ") false ∷
-    entry 0x80 S (codes "SSM   ") true ∷
-    entry 0x82 S (codes "LPSW  ") true ∷
-    entry 0x83 Rs (codes "DIAG  ") true ∷
-    entry 0x84 Rsi (codes "BRXH  ") false ∷
-    entry 0x85 Rsi (codes "BRXLE ") false ∷
-    entry 0x86 Rs (codes "BXH   ") false ∷
-    entry 0x87 Rs (codes "BXLE  ") false ∷
-    entry 0x88 Rs (codes "SRL   ") false ∷
-    entry 0x89 Rs (codes "SLL   ") false ∷
-    entry 0x8A Rs (codes "SRA   ") false ∷
-    entry 0x8B Rs (codes "SLA   ") false ∷
-    entry 0x8C Rs (codes "SRDL  ") false ∷
-    entry 0x8D Rs (codes "SLDL  ") false ∷
-    entry 0x8E Rs (codes "SRDA  ") false ∷
-    entry 0x8F Rs (codes "SLDA  ") false ∷
-    entry 0x90 Rs (codes "STM   ") false ∷
-    entry 0x91 Si (codes "TM    ") false ∷
-    entry 0x92 Si (codes "MVI   ") false ∷
-    entry 0x93 S (codes "TS    ") false ∷
-    entry 0x94 Si (codes "NI    ") false ∷
-    entry 0x95 Si (codes "CLI   ") false ∷
-    entry 0x96 Si (codes "OI    ") false ∷
-    entry 0x97 Si (codes "XI    ") false ∷
-    entry 0x98 Rs (codes "LM    ") false ∷
-    entry 0xAC Si (codes "STNSM ") true ∷
-    entry 0xAD Si (codes "STOSM ") true ∷
-    entry 0xAE Rs (codes "SIGP  ") true ∷
-    entry 0xB6 Rs (codes "STCTL ") true ∷
-    entry 0xB7 Rs (codes "LCTL  ") true ∷
-    entry 0xBA Rs (codes "CS    ") false ∷
-    entry 0xBB Rs (codes "CDS   ") false ∷
-    entry 0xBD Rs (codes "CLM   ") false ∷
-    entry 0xBE Rs (codes "STCM  ") false ∷
-    entry 0xBF Rs (codes "ICM   ") false ∷
-    entry 0xD1 Ss1 (codes "MVN   ") false ∷
-    entry 0xD2 Ss1 (codes "MVC   ") false ∷
-    entry 0xD3 Ss1 (codes "MVZ   ") false ∷
-    entry 0xD4 Ss1 (codes "NC    ") false ∷
-    entry 0xD5 Ss1 (codes "CLC   ") false ∷
-    entry 0xD6 Ss1 (codes "OC    ") false ∷
-    entry 0xD7 Ss1 (codes "XC    ") false ∷
-    entry 0xDC Ss1 (codes "TR    ") false ∷
-    entry 0xDD Ss1 (codes "TRT   ") false ∷
-    entry 0xDE Ss1 (codes "ED    ") false ∷
-    entry 0xDF Ss1 (codes "EDMK  ") false ∷
-    entry 0xE8 Ss1 (codes "MVCIN ") false ∷
-    entry 0xF0 Ss2 (codes "SRP   ") false ∷
-    entry 0xF1 Ss2 (codes "MVO   ") false ∷
-    entry 0xF2 Ss2 (codes "PACK  ") false ∷
-    entry 0xF3 Ss2 (codes "UNPK  ") false ∷
-    entry 0xF8 Ss2 (codes "ZAP   ") false ∷
-    entry 0xF9 Ss2 (codes "CP    ") false ∷
-    entry 0xFA Ss2 (codes "AP    ") false ∷
-    entry 0xFB Ss2 (codes "SP    ") false ∷
-    entry 0xFC Ss2 (codes "MP    ") false ∷
-    entry 0xFD Ss2 (codes "DP    ") false ∷
-    entry 0xA70 Ri (codes "TMH   ") false ∷
-    entry 0xA71 Ri (codes "TML   ") false ∷
-    entry 0xA74 Ri (codes "BRC   ") false ∷
-    entry 0xA75 Ri (codes "BRAS  ") false ∷
-    entry 0xA76 Ri (codes "BRCT  ") false ∷
-    entry 0xA78 Ri (codes "LHI   ") false ∷
-    entry 0xA7A Ri (codes "AHI   ") false ∷
-    entry 0xA7C Ri (codes "MHI   ") false ∷
-    entry 0xA7E Ri (codes "CHI   ") false ∷
-    entry 0xB210 S (codes "SPX   ") true ∷
-    entry 0xB211 S (codes "STPX  ") true ∷
-    entry 0xB212 S (codes "STAP  ") true ∷
-    entry 0xB222 Rre (codes "IPM   ") false ∷
-    entry 0xB229 Rre (codes "ISKE  ") true ∷
-    entry 0xB22A Rre (codes "RRBE  ") true ∷
-    entry 0xB22B Rre (codes "SSKE  ") true ∷
-    entry 0xB252 Rre (codes "MSR   ") false ∷
+abbrev pub table : List TableRow
+table =
+    entry 0x04 Rr (codes "SPM   ") false (Branches ByRegister) ∷
+    entry 0x05 Rr (codes "BALR  ") false (Branches ByRegister) ∷
+    entry 0x06 Rr (codes "BCTR  ") false (Branches ByRegister) ∷
+    entry 0x07 Rr (codes "BCR   ") false (Branches ByRegister) ∷
+    entry 0x0A Rr (codes "SVC   ") false (Branches Call) ∷
+    entry 0x0B Rr (codes "BSM   ") false (Branches ByRegister) ∷
+    entry 0x0C Rr (codes "BASSM ") false (Branches ByRegister) ∷
+    entry 0x0D Rr (codes "BASR  ") false (Branches ByRegister) ∷
+    entry 0x0E Rr (codes "MVCL  ") false (Bytes MoveLong) ∷
+    entry 0x0F Rr (codes "CLCL  ") false (Bytes CompareLong) ∷
+    entry 0x10 Rr (codes "LPR   ") false (Words Registers) ∷
+    entry 0x11 Rr (codes "LNR   ") false (Words Registers) ∷
+    entry 0x12 Rr (codes "LTR   ") false (Words Registers) ∷
+    entry 0x13 Rr (codes "LCR   ") false (Words Registers) ∷
+    entry 0x14 Rr (codes "NR    ") false (Words Registers) ∷
+    entry 0x15 Rr (codes "CLR   ") false (Words Registers) ∷
+    entry 0x16 Rr (codes "OR    ") false (Words Registers) ∷
+    entry 0x17 Rr (codes "XR    ") false (Words Registers) ∷
+    entry 0x18 Rr (codes "LR    ") false (Words Registers) ∷
+    entry 0x19 Rr (codes "CR    ") false (Words Registers) ∷
+    entry 0x1A Rr (codes "AR    ") false (Words Registers) ∷
+    entry 0x1B Rr (codes "SR    ") false (Words Registers) ∷
+    entry 0x1C Rr (codes "MR    ") false (Words Pairs) ∷
+    entry 0x1D Rr (codes "DR    ") false (Words Pairs) ∷
+    entry 0x1E Rr (codes "ALR   ") false (Words Registers) ∷
+    entry 0x1F Rr (codes "SLR   ") false (Words Registers) ∷
+    entry 0x40 Rx (codes "STH   ") false (Stores Halfword) ∷
+    entry 0x41 Rx (codes "LA    ") false (Words Address) ∷
+    entry 0x42 Rx (codes "STC   ") false (Stores Character) ∷
+    entry 0x43 Rx (codes "IC    ") false (Stores InsertCharacter) ∷
+    entry 0x44 Rx (codes "EX    ") false (Branches Execute) ∷
+    entry 0x45 Rx (codes "BAL   ") false (Branches ByIndex) ∷
+    entry 0x46 Rx (codes "BCT   ") false (Branches ByIndex) ∷
+    entry 0x47 Rx (codes "BC    ") false (Branches ByIndex) ∷
+    entry 0x48 Rx (codes "LH    ") false (Words Halfwords) ∷
+    entry 0x49 Rx (codes "CH    ") false (Words Halfwords) ∷
+    entry 0x4A Rx (codes "AH    ") false (Words Halfwords) ∷
+    entry 0x4B Rx (codes "SH    ") false (Words Halfwords) ∷
+    entry 0x4C Rx (codes "MH    ") false (Words Halfwords) ∷
+    entry 0x4D Rx (codes "BAS   ") false (Branches ByIndex) ∷
+    entry 0x4E Rx (codes "CVD   ") false (Decimals ToDecimal) ∷
+    entry 0x4F Rx (codes "CVB   ") false (Decimals ToBinary) ∷
+    entry 0x50 Rx (codes "ST    ") false (Stores Word) ∷
+    entry 0x54 Rx (codes "N     ") false (Words Storage) ∷
+    entry 0x55 Rx (codes "CL    ") false (Words Storage) ∷
+    entry 0x56 Rx (codes "O     ") false (Words Storage) ∷
+    entry 0x57 Rx (codes "X     ") false (Words Storage) ∷
+    entry 0x58 Rx (codes "L     ") false (Words Storage) ∷
+    entry 0x59 Rx (codes "C     ") false (Words Storage) ∷
+    entry 0x5A Rx (codes "A     ") false (Words Storage) ∷
+    entry 0x5B Rx (codes "S     ") false (Words Storage) ∷
+    entry 0x5C Rx (codes "M     ") false (Words PairStorage) ∷
+    entry 0x5D Rx (codes "D     ") false (Words PairStorage) ∷
+    entry 0x5E Rx (codes "AL    ") false (Words Storage) ∷
+    entry 0x5F Rx (codes "SL    ") false (Words Storage) ∷
+    entry 0x71 Rx (codes "MS    ") false (Words Storage) ∷
+    entry 0x80 S (codes "SSM   ") true (Controls Fetching) ∷
+    entry 0x82 S (codes "LPSW  ") true (Controls Fetching) ∷
+    entry 0x83 Rs (codes "DIAG  ") true (Controls Diagnose) ∷
+    entry 0x84 Rsi (codes "BRXH  ") false (Branches ByDistance) ∷
+    entry 0x85 Rsi (codes "BRXLE ") false (Branches ByDistance) ∷
+    entry 0x86 Rs (codes "BXH   ") false (Branches ByBase) ∷
+    entry 0x87 Rs (codes "BXLE  ") false (Branches ByBase) ∷
+    entry 0x88 Rs (codes "SRL   ") false (Words Shifts) ∷
+    entry 0x89 Rs (codes "SLL   ") false (Words Shifts) ∷
+    entry 0x8A Rs (codes "SRA   ") false (Words Shifts) ∷
+    entry 0x8B Rs (codes "SLA   ") false (Words Shifts) ∷
+    entry 0x8C Rs (codes "SRDL  ") false (Words PairShifts) ∷
+    entry 0x8D Rs (codes "SLDL  ") false (Words PairShifts) ∷
+    entry 0x8E Rs (codes "SRDA  ") false (Words PairShifts) ∷
+    entry 0x8F Rs (codes "SLDA  ") false (Words PairShifts) ∷
+    entry 0x90 Rs (codes "STM   ") false (Stores StoreMultiple) ∷
+    entry 0x91 Si (codes "TM    ") false (Stores TestUnderMask) ∷
+    entry 0x92 Si (codes "MVI   ") false (Stores MoveImmediate) ∷
+    entry 0x93 S (codes "TS    ") false (Stores TestAndSet) ∷
+    entry 0x94 Si (codes "NI    ") false (Stores CombineImmediate) ∷
+    entry 0x95 Si (codes "CLI   ") false (Stores CompareImmediate) ∷
+    entry 0x96 Si (codes "OI    ") false (Stores CombineImmediate) ∷
+    entry 0x97 Si (codes "XI    ") false (Stores CombineImmediate) ∷
+    entry 0x98 Rs (codes "LM    ") false (Stores LoadMultiple) ∷
+    entry 0xAC Si (codes "STNSM ") true (Controls Masks) ∷
+    entry 0xAD Si (codes "STOSM ") true (Controls Masks) ∷
+    entry 0xAE Rs (codes "SIGP  ") true (Controls Signal) ∷
+    entry 0xB6 Rs (codes "STCTL ") true (Controls Storing) ∷
+    entry 0xB7 Rs (codes "LCTL  ") true (Controls Fetching) ∷
+    entry 0xBA Rs (codes "CS    ") false (Stores CompareAndSwap) ∷
+    entry 0xBB Rs (codes "CDS   ") false (Stores CompareDoubleAndSwap) ∷
+    entry 0xBD Rs (codes "CLM   ") false (Stores CompareUnderMask) ∷
+    entry 0xBE Rs (codes "STCM  ") false (Stores StoreUnderMask) ∷
+    entry 0xBF Rs (codes "ICM   ") false (Stores InsertUnderMask) ∷
+    entry 0xD1 Ss1 (codes "MVN   ") false (Bytes Combine) ∷
+    entry 0xD2 Ss1 (codes "MVC   ") false (Bytes Move) ∷
+    entry 0xD3 Ss1 (codes "MVZ   ") false (Bytes Combine) ∷
+    entry 0xD4 Ss1 (codes "NC    ") false (Bytes Combine) ∷
+    entry 0xD5 Ss1 (codes "CLC   ") false (Bytes Compare) ∷
+    entry 0xD6 Ss1 (codes "OC    ") false (Bytes Combine) ∷
+    entry 0xD7 Ss1 (codes "XC    ") false (Bytes Combine) ∷
+    entry 0xDC Ss1 (codes "TR    ") false (Bytes Translate) ∷
+    entry 0xDD Ss1 (codes "TRT   ") false (Bytes TranslateAndTest) ∷
+    entry 0xDE Ss1 (codes "ED    ") false (Decimals Edited) ∷
+    entry 0xDF Ss1 (codes "EDMK  ") false (Decimals EditedAndMarked) ∷
+    entry 0xE8 Ss1 (codes "MVCIN ") false (Bytes MoveInverse) ∷
+    entry 0xF0 Ss2 (codes "SRP   ") false (Decimals Shifted) ∷
+    entry 0xF1 Ss2 (codes "MVO   ") false (Decimals Fields) ∷
+    entry 0xF2 Ss2 (codes "PACK  ") false (Decimals Replaced) ∷
+    entry 0xF3 Ss2 (codes "UNPK  ") false (Decimals Replaced) ∷
+    entry 0xF8 Ss2 (codes "ZAP   ") false (Decimals Replaced) ∷
+    entry 0xF9 Ss2 (codes "CP    ") false (Decimals Compared) ∷
+    entry 0xFA Ss2 (codes "AP    ") false (Decimals Fields) ∷
+    entry 0xFB Ss2 (codes "SP    ") false (Decimals Fields) ∷
+    entry 0xFC Ss2 (codes "MP    ") false (Decimals Products) ∷
+    entry 0xFD Ss2 (codes "DP    ") false (Decimals Products) ∷
+    entry 0xA70 Ri (codes "TMH   ") false (Words Immediates) ∷
+    entry 0xA71 Ri (codes "TML   ") false (Words Immediates) ∷
+    entry 0xA74 Ri (codes "BRC   ") false (Branches ByDistance) ∷
+    entry 0xA75 Ri (codes "BRAS  ") false (Branches ByDistance) ∷
+    entry 0xA76 Ri (codes "BRCT  ") false (Branches ByDistance) ∷
+    entry 0xA78 Ri (codes "LHI   ") false (Words Immediates) ∷
+    entry 0xA7A Ri (codes "AHI   ") false (Words Immediates) ∷
+    entry 0xA7C Ri (codes "MHI   ") false (Words Immediates) ∷
+    entry 0xA7E Ri (codes "CHI   ") false (Words Immediates) ∷
+    entry 0xB205 S (codes "STCK  ") false (Controls Clock) ∷
+    entry 0xB206 S (codes "SCKC  ") true (Controls SetsClock) ∷
+    entry 0xB207 S (codes "STCKC ") true (Controls StoresClock) ∷
+    entry 0xB208 S (codes "SPT   ") true (Controls SetsClock) ∷
+    entry 0xB209 S (codes "STPT  ") true (Controls StoresClock) ∷
+    entry 0xB210 S (codes "SPX   ") true (Controls Fetching) ∷
+    entry 0xB211 S (codes "STPX  ") true (Controls Storing) ∷
+    entry 0xB212 S (codes "STAP  ") true (Controls Storing) ∷
+    entry 0xB222 Rre (codes "IPM   ") false (Branches ByRegister) ∷
+    entry 0xB229 Rre (codes "ISKE  ") true (Controls Keys) ∷
+    entry 0xB22A Rre (codes "RRBE  ") true (Controls Keys) ∷
+    entry 0xB22B Rre (codes "SSKE  ") true (Controls Keys) ∷
+    entry 0xB252 Rre (codes "MSR   ") false (Words Registers) ∷
     []
+
+abbrev pub rows : List Row
+rows = map (λ (r : TableRow). r.row) table
+
+abbrev pub kinds : List Kind
+kinds = map (λ (r : TableRow). r.kind) table
 
 -- the row of an opcode
 unfoldable pub row_of : ℕ → Option Row
@@ -155,7 +182,15 @@ row_at number = slice_get rows number
 
 -- the same, and past the end a row with opcode 0, which no row of the table has
 unfoldable pub row_numbered : ℕ → Row
-row_numbered number = slice_index_or rows number (entry 0 Rr (codes "      ") false)
+row_numbered number = slice_index_or rows number (record { opcode = 0; form = Rr; name = codes "      "; privileged = false })
+
+-- the kind of a row of a number, from 0
+unfoldable pub kind_at : ℕ → Option Kind
+kind_at number = slice_get kinds number
+
+-- the same, and past the end that of no operation
+unfoldable pub kind_numbered : ℕ → Kind
+kind_numbered number = slice_index_or kinds number (Branches Execute)
 
 -- the number of the row of an opcode
 unfoldable pub number_of : ℕ → Option ℕ

@@ -6,11 +6,17 @@ use Rattle.esa_model.specs.declared.machine.Registers.{Registers}
 use Rattle.esa_model.specs.declared.instructions.Form.TheVariants.{Rx}
 use Rattle.esa_model.specs.declared.instructions.Row.{Row}
 use Rattle.esa_model.specs.declared.instructions.Decoded.{Decoded}
+use Rattle.esa_model.specs.declared.codes.TheConstants.{OPERATION, PRIVILEGED, EXECUTED, SPECIFICATION, EXECUTE}
+use Rattle.esa_model.specs.declared.events.Interruption.{Interruption}
+use Rattle.esa_model.specs.declared.events.Interruption.TheVariants.{Program}
+use Rattle.esa_model.specs.declared.events.KeySet.{KeySet}
+use Rattle.esa_model.specs.declared.events.SentOrder.{SentOrder}
+use Rattle.esa_model.specs.declared.events.Taken.{Taken}
 use Rattle.esa_model.specs.Word.{first_code}
 use Rattle.esa_model.specs.Psw.{address, is_problem}
 use Rattle.esa_model.specs.Access.{Memory, Operands, whole, byte, bytes, codes, refused, noted_of, referenced}
-use Rattle.esa_model.specs.Table.{row_numbered, decoded, fields_of, length_of}
-use Rattle.esa_model.specs.Line.{Line, Side, Inputs, Effect, memory_of, indexed, advanced, part}
+use Rattle.esa_model.specs.Table.{row_numbered, kind_numbered, decoded, fields_of, length_of}
+use Rattle.esa_model.specs.Line.{FullLine, Side, Situation, Effect, memory_of, indexed, advanced, part}
 use Rattle.esa_model.specs.Rows.All.{line}
 
 -- what an event does
@@ -21,44 +27,37 @@ pub record Done : Type 0 where
   pub console_out : List ℕ  -- bytes for the console
   pub console_in : Option ℕ  -- bytes read from the console input, where it is read
   pub blocks : List ℕ  -- referenced
-  pub block : ℕ  -- whose key is set, or X'FFFF'
-  pub key : ℕ
-  pub kind : ℕ  -- of the interruption: 0 none, 1 program, 2 SVC, 3 external, 4 restart
-  pub identification : ℕ
-  pub request : ℕ  -- taken: 0 none, 1 key, 2 malfunction alert, 3 emergency signal, 4 external call, 5 restart
-  pub sender : ℕ
-  pub order : ℕ  -- to another CPU, accepted, or 0
-  pub order_to : ℕ
+  pub set_key : Option KeySet
+  pub interruption : Option Interruption
+  pub identification : ℕ  -- that the interruption stores
+  pub taken : Option Taken  -- of what is pending at the CPU
+  pub sent : Option SentOrder  -- to another CPU
 
 -- an interruption and nothing else, with the blocks that were referenced before
-abbrev pub interrupted : Registers → ℕ → ℕ → List ℕ → Done
-interrupted r kind identification blocks = record {
+abbrev pub interrupted : Registers → Option Interruption → ℕ → List ℕ → Done
+interrupted r interruption identification blocks = record {
   registers = r;
   to = 0;
   stored = [];
   console_out = [];
   console_in = None;
   blocks = blocks;
-  block = 0xFFFF;
-  key = 0;
-  kind = kind;
+  set_key = None;
+  interruption = interruption;
   identification = identification;
-  request = 0;
-  sender = 0;
-  order = 0;
-  order_to = 0xFF;
+  taken = None;
+  sent = None;
 }
 
--- a unit that a program exception suppresses. The identification has the length code in bits 5-6 of its second byte,
--- which is the length in bytes, and the code
+-- a unit that a program exception suppresses: its length in bytes and the code are its identification
 unfoldable pub suppressed : Registers → ℕ → ℕ → List ℕ → Done
-suppressed r len code blocks = interrupted (advanced r len) 1 (len * 2 ^ 16 + code) blocks
+suppressed r len code blocks = interrupted (advanced r len) (Some Program) (len * 2 ^ 16 + code) blocks
 
 -- ---- the fetch
 
 -- whether the first halfword is refused: at an odd address, outside, or protected
 unfoldable pub start_code : Registers → Memory → ℕ → ℕ
-start_code r m at = if at % 2 == 1 then 6 else first_code (codes r m (whole at 2 true false))
+start_code r m at = if at % 2 == 1 then SPECIFICATION else first_code (codes r m (whole at 2 true false))
 
 -- the length in bytes, by the first byte; 2 where the first halfword is refused
 unfoldable pub fetch_len : Registers → Memory → ℕ → ℕ
@@ -78,14 +77,20 @@ fetched_blocks r m at blocks = noted_of r (whole at (fetch_len r m at) true fals
 
 -- ---- the priority of exceptions
 
-unfoldable pub exception : Row → Line → Inputs → ℕ
-exception row l i = first_code (
-    (if row.privileged && is_problem i.registers.psw then 2 else 0) ∷
-    (if l.in_order i then 0 else 6) ∷
-    refused i.registers (memory_of i) (l.operands i) ∷ [])
+unfoldable pub exception : Row → FullLine → Situation → ℕ
+exception row l s = first_code (
+    (if row.privileged && is_problem s.inputs.registers.psw then PRIVILEGED else 0) ∷
+    (if l.in_order s then 0 else SPECIFICATION) ∷
+    refused s.inputs.registers (memory_of s) (l.operands s) ∷ [])
+
+-- what identifies the interruption that an effect ends with: the length in bytes, which is the length code in bits 5-6 of
+-- the second byte, and the code
+abbrev pub identified : Option Interruption → ℕ → ℕ → ℕ
+identified None len code = 0
+identified (Some k) len code = len * 2 ^ 16 + code
 
 -- an effect that no fault suppresses
-unfoldable pub carried : Registers → ℕ → Operands → Effect → List ℕ → Done
+abbrev pub carried : Registers → ℕ → Operands → Effect → List ℕ → Done
 carried r len os e blocks = record {
   registers = e.registers;
   to = os.first.at;
@@ -93,31 +98,38 @@ carried r len os e blocks = record {
   console_out = e.console_out;
   console_in = e.console_in;
   blocks = referenced r os blocks;
-  block = e.block;
-  key = e.key;
-  kind = e.kind;
-  identification = if e.kind == 0 then 0 else len * 2 ^ 16 + e.code;
-  request = 0;
-  sender = 0;
-  order = e.order;
-  order_to = e.order_to;
+  set_key = e.set_key;
+  interruption = e.interruption;
+  identification = identified e.interruption len e.code;
+  taken = None;
+  sent = e.sent;
 }
 
 -- the exceptions from the privileged operation on, for a row
-unfoldable pub performed : Row → Line → Inputs → List ℕ → Done
-performed row l i blocks =
-    let code = exception row l i in
-    let e = l.effect i in
+unfoldable pub performed : Row → FullLine → Situation → List ℕ → Done
+performed row l s blocks =
+    let r = s.inputs.registers in
+    let len = s.inputs.len in
+    let code = exception row l s in
+    let e = l.effect s in
     if code == 0
-    then (if e.fault == 0 then carried i.registers i.len (l.operands i) e blocks else suppressed i.registers i.len e.fault blocks)
-    else suppressed i.registers i.len code blocks
+    then (if e.fault == 0 then carried r len (l.operands s) e blocks else suppressed r len e.fault blocks)
+    else suppressed r len code blocks
+
+-- what an instruction starts from
+abbrev pub situation : Registers → ℕ → List ℕ → Side → Decoded → ℕ → ℕ → Situation
+situation r cpu storage side d own len = record {
+  inputs = record { registers = r; storage = storage; decoded = d; own = own; len = len };
+  cpu = cpu;
+  side = side;
+}
 
 -- the same for a decoded instruction; an opcode that the table has not is an operation exception
 abbrev pub by_fields : Registers → ℕ → List ℕ → Side → ℕ → ℕ → List ℕ → Option Decoded → Done
-by_fields r cpu storage side own len blocks None = suppressed r len 1 blocks
+by_fields r cpu storage side own len blocks None = suppressed r len OPERATION blocks
 by_fields r cpu storage side own len blocks (Some d) =
-    performed (row_numbered d.row) (line (row_numbered d.row).opcode)
-    (record { registers = r; cpu = cpu; storage = storage; side = side; decoded = d; own = own; len = len }) blocks
+    performed (row_numbered d.row) (line (kind_numbered d.row) (row_numbered d.row).opcode)
+    (situation r cpu storage side d own len) blocks
 
 -- the same for the six bytes of an instruction: own is its address, len its length in bytes, under EX that of EX
 unfoldable pub instructed : Registers → ℕ → List ℕ → Side → List ℕ → ℕ → ℕ → List ℕ → Done
@@ -142,7 +154,8 @@ executed r cpu storage side bs blocks =
     let all = fetched_blocks r m at blocks in
     let target = fetched r m at in
     if code == 0
-    then (if slice_index target 0 == 0x44 then suppressed r 4 3 all else instructed r cpu storage side (modified r (slice_index bs 1 / 16) target) at 4 all)
+    then (if slice_index target 0 == EXECUTE then suppressed r 4 EXECUTED all
+    else instructed r cpu storage side (modified r (slice_index bs 1 / 16) target) at 4 all)
     else suppressed r 4 code blocks
 
 -- ---- one unit
@@ -156,5 +169,5 @@ unit r cpu storage side =
     let bs = fetched r m at in
     let blocks = fetched_blocks r m at [] in
     if code == 0
-    then (if slice_index bs 0 == 0x44 then executed r cpu storage side bs blocks else instructed r cpu storage side bs at len blocks)
+    then (if slice_index bs 0 == EXECUTE then executed r cpu storage side bs blocks else instructed r cpu storage side bs at len blocks)
     else suppressed r len code []

@@ -3,6 +3,7 @@
 -- Source: Principles of Operation, chapter on general instructions; the names of the instructions stand at each row.
 use Rattle.std.specs.Prelude.{ℕ, zero, suc, ◌+◌, ◌-◌, ◌*◌, ◌/◌, ◌%◌, ◌^◌, nat_lt, ◌==◌, if◌then◌else◌, ℤ, pos, ◌+ℤ◌, ◌-ℤ◌, ◌*ℤ◌, neg_ℤ, int_lt, int_div, int_rem, unsigned_abs, bit_and, bit_or, bit_xor, List, [], ◌∷◌, Bool, true, false}
 use Rattle.std.specs.Int.{int_div_euclid, int_rem_euclid}
+use Rattle.esa_model.specs.declared.codes.TheConstants.{STAYS, FIXED_OVERFLOW, FIXED_DIVIDE}
 use Rattle.esa_model.specs.declared.machine.Value.{Value}
 use Rattle.esa_model.specs.Word.{signed, arith}
 
@@ -11,7 +12,7 @@ value word low code fault = record { word = word; low = low; cc = code; fault = 
 
 -- a word, with the condition code as it was
 abbrev pub plain : ℕ → Value
-plain word = value word 0 4 0
+plain word = value word 0 STAYS 0
 
 -- ---- whole numbers
 
@@ -33,7 +34,7 @@ bits_code word = if word == 0 then 0 else 1
 
 -- a signed result: where it has no word, code 3 and a fixed-point overflow
 abbrev pub signed_result : ℤ → Value
-signed_result z = value (word z) 0 (arith z) (if arith z == 3 then 8 else 0)
+signed_result z = value (word z) 0 (arith z) (if arith z == 3 then FIXED_OVERFLOW else 0)
 
 abbrev pub bits_result : ℕ → Value
 bits_result w = value w 0 (bits_code w) 0
@@ -101,7 +102,7 @@ subtract_row a b = signed_result (signed a -ℤ signed b)
 
 -- MR, M: the product of the second word of the pair, in the pair
 abbrev pub pair_result : ℤ → Value
-pair_result z = value (high_word z) (word z) 4 0
+pair_result z = value (high_word z) (word z) STAYS 0
 
 unfoldable pub multiply_row : ℕ → ℕ → Value
 multiply_row low b = pair_result (signed low *ℤ signed b)
@@ -113,7 +114,7 @@ multiply_single_row a b = plain (word (signed a *ℤ signed b))
 -- DR, D: the remainder with the dividend's sign, and the quotient toward zero; where the divisor is zero or the quotient
 -- has no word the pair stays, with a fixed-point divide exception
 abbrev pub not_divided : ℕ → ℕ → Value
-not_divided a low = value a low 4 9
+not_divided a low = value a low STAYS FIXED_DIVIDE
 
 unfoldable pub divide_row : ℕ → ℕ → ℕ → Value
 divide_row a low b =
@@ -121,7 +122,7 @@ divide_row a low b =
     let d = signed b in
     if b == 0 then not_divided a low else
     if arith (int_div z d) == 3 then not_divided a low else
-    value (word (int_rem z d)) (word (int_div z d)) 4 0
+    value (word (int_rem z d)) (word (int_div z d)) STAYS 0
 
 -- ALR, AL: 1 where the word is not zero, and 2 more with a carry
 unfoldable pub add_logical_row : ℕ → ℕ → Value
@@ -209,7 +210,7 @@ abbrev pub left_code : ℕ → ℕ → ℕ → ℕ
 left_code w bits n = if lost w bits n == like_sign w bits n then bits_sign w (shifted_left w bits n) else 3
 
 abbrev pub left_fault : ℕ → ℕ → ℕ → ℕ
-left_fault w bits n = if lost w bits n == like_sign w bits n then 0 else 8
+left_fault w bits n = if lost w bits n == like_sign w bits n then 0 else FIXED_OVERFLOW
 
 -- 64 bits in a pair
 abbrev pub in_pair : ℕ → ℕ → ℕ → Value
@@ -233,11 +234,11 @@ shift_left_row a n = value (shifted_left 32 a n) 0 (left_code 32 a n) (left_faul
 
 -- SRDL
 unfoldable pub shift_right_double_logical_row : ℕ → ℕ → ℕ → Value
-shift_right_double_logical_row a low n = in_pair (pair_bits a low / 2 ^ n) 4 0
+shift_right_double_logical_row a low n = in_pair (pair_bits a low / 2 ^ n) STAYS 0
 
 -- SLDL
 unfoldable pub shift_left_double_logical_row : ℕ → ℕ → ℕ → Value
-shift_left_double_logical_row a low n = in_pair (pair_bits a low * 2 ^ n % 2 ^ 64) 4 0
+shift_left_double_logical_row a low n = in_pair (pair_bits a low * 2 ^ n % 2 ^ 64) STAYS 0
 
 -- SRDA
 unfoldable pub shift_right_double_row : ℕ → ℕ → ℕ → Value

@@ -1,17 +1,17 @@
 -- Worked values of the machine's definitions, computed from them.
-use Rattle.std.specs.Prelude.{ℕ, ◌≡◌, ◌++◌, List, [], ◌∷◌, true, Some, None, Option, length, replicate, slice_index, refl}
+use Rattle.std.specs.Prelude.{ℕ, ◌≡◌, ◌++◌, List, [], ◌∷◌, true, Some, None, replicate, refl}
 use Rattle.esa_model.specs.declared.machine.Registers.{Registers}
 use Rattle.esa_model.specs.declared.machine.CpuState.TheVariants.{Operating}
-use Rattle.esa_model.specs.declared.instructions.Decoded.{Decoded}
+use Rattle.esa_model.specs.declared.events.Interruption.TheVariants.{Program}
 use Rattle.esa_model.specs.Access.{Memory, absolute, place, permit, byte, bytes, codes, noted_of, noted, refused, referenced}
 use Rattle.esa_model.specs.Bus.{quiet, signals_of}
-use Rattle.esa_model.specs.Event.{due, enabled, requests}
-use Rattle.esa_model.specs.Table.{decoded, number_of, row_numbered, fields}
+use Rattle.esa_model.specs.Event.{due}
+use Rattle.esa_model.specs.Table.{decoded, number_of, row_numbered, kind_numbered}
 use Rattle.esa_model.specs.Line.{Side, advanced, valued, with_value, word_at}
 use Rattle.esa_model.specs.WordRows.{rr_row, add_row}
 use Rattle.esa_model.specs.Rows.Words.{words_line}
 use Rattle.esa_model.specs.Rows.All.{line}
-use Rattle.esa_model.specs.Unit.{Done, unit, instructed, performed, exception, carried, suppressed, start_code, fetch_len, fetch_code, fetched, fetched_blocks}
+use Rattle.esa_model.specs.Unit.{Done, interrupted, unit, instructed, performed, exception, start_code, fetch_len, fetch_code, fetched, fetched_blocks}
 use Rattle.esa_model.specs.Machine.{done, storage_after, psw_after}
 
 -- ---- prefixing
@@ -30,6 +30,7 @@ protected = record {
   control = 0x10000000 ∷ replicate 15 0;
   psw = record { w0 = 0x00080000; w1 = 0x80000000 };
   prefix = 0x4000;
+  clocks = replicate 4 0;
 }
 
 abbrev five_pages : Memory
@@ -50,14 +51,20 @@ next_place = refl
 -- ---- an early specification exception: a PSW of zeros
 
 abbrev zeros : Registers
-zeros = record { general = replicate 16 0; control = replicate 16 0; psw = record { w0 = 0; w1 = 0 }; prefix = 0 }
+zeros = record {
+  general = replicate 16 0;
+  control = replicate 16 0;
+  psw = record { w0 = 0; w1 = 0 };
+  prefix = 0;
+  clocks = replicate 4 0;
+}
 
 -- the new PSW at 104
 abbrev low_storage : List ℕ
 low_storage = replicate 104 0 ++ (0 ∷ 8 ∷ 0 ∷ 0 ∷ 0x80 ∷ 1 ∷ 0 ∷ 0x80 ∷ replicate 40 0xEE)
 
 abbrev alone : Side
-alone = record { keys = 0 ∷ []; bus = quiet Operating ∷ []; console = [] }
+alone = record { keys = 0 ∷ []; bus = quiet Operating ∷ []; console = []; clock = 0 }
 
 abbrev early : Done
 early = done zeros 0 low_storage alone
@@ -78,6 +85,7 @@ summing = record {
   control = replicate 16 0;
   psw = record { w0 = 0x00080800; w1 = 0x80000090 };
   prefix = 0;
+  clocks = replicate 4 0;
 }
 
 abbrev with_sum : List ℕ
@@ -86,21 +94,18 @@ with_sum = replicate 144 0 ++ (0x1A ∷ 0x12 ∷ replicate 6 0)
 abbrev overflow : Done
 overflow = unit summing 0 with_sum alone
 
-pub overflow_interrupts : overflow.kind ≡ 1
-unfolding unit instructed performed exception carried start_code fetch_len fetch_code fetched fetched_blocks decoded number_of row_numbered line words_line rr_row add_row valued with_value advanced codes permit refused referenced noted_of noted byte bytes place
-overflow_interrupts = refl
+-- the sum, and the PSW to be stored with condition code 3 and the next address
+abbrev overflown : Registers
+overflown = record summing {
+  general = 0 ∷ 0x80000000 ∷ 1 ∷ replicate 13 0;
+  psw = record { w0 = 0x00083800; w1 = 0x80000092 };
+}
 
-pub overflow_tells : overflow.identification ≡ 0x00020008
-unfolding unit instructed performed exception carried start_code fetch_len fetch_code fetched fetched_blocks decoded number_of row_numbered line words_line rr_row add_row valued with_value advanced codes permit refused referenced noted_of noted byte bytes place
-overflow_tells = refl
-
-pub overflow_psw : overflow.registers.psw ≡ record { w0 = 0x00083800; w1 = 0x80000092 }
-unfolding unit instructed performed exception carried start_code fetch_len fetch_code fetched fetched_blocks decoded number_of row_numbered line words_line rr_row add_row valued with_value advanced codes permit refused referenced noted_of noted byte bytes place
-overflow_psw = refl
-
-pub overflow_sum : slice_index overflow.registers.general 1 ≡ 0x80000000
-unfolding unit instructed performed exception carried start_code fetch_len fetch_code fetched fetched_blocks decoded number_of row_numbered line words_line rr_row add_row valued with_value advanced codes permit refused referenced noted_of noted byte bytes place
-overflow_sum = refl
+pub overflow_done : overflow ≡ record (interrupted overflown (Some Program) 0x00020008 (0 ∷ [])) { to = 0 }
+unfolding unit instructed performed exception start_code fetch_len fetch_code fetched fetched_blocks
+    decoded number_of row_numbered kind_numbered line words_line rr_row add_row valued with_value advanced
+    codes permit refused referenced noted_of noted byte bytes place
+overflow_done = refl
 
 -- ---- an opcode that is in no row: an operation exception, its block referenced
 

@@ -1,10 +1,6 @@
 /// The number of a logical CPU, from 0.
-#[derive(Clone, Copy, Debug, PartialEq, Eq)]
+#[derive(Clone, Copy, Debug, Default, PartialEq, Eq)]
 pub struct CpuNo(pub u8);
-
-/// The number of a core: 0 to 7 those that begin with a CPU, 8 to 15 the spares.
-#[derive(Clone, Copy, Debug, PartialEq, Eq)]
-pub struct CoreNo(pub u8);
 
 /// A program status word: bits 0 to 31 and bits 32 to 63.
 #[derive(Clone, Copy, Debug, PartialEq, Eq)]
@@ -13,22 +9,26 @@ pub struct Psw {
     pub w1: u32,
 }
 
-/// The registers of a CPU.
+/// The registers of a CPU. `clocks` are the clock comparator, the clock's value at which the CPU timer
+/// is zero, and two words that are zero.
 #[derive(Clone, Copy, Debug, PartialEq, Eq)]
 pub struct Registers {
     pub general: [u32; 16],
     pub control: [u32; 16],
     pub psw: Psw,
     pub prefix: u32,
+    pub clocks: [u64; 4],
 }
 
-/// An external request that is pending, with the CPU that sent it.
+/// A request for an external interruption; one that another CPU sent has that CPU's number.
 #[derive(Clone, Copy, Debug, PartialEq, Eq)]
 pub enum Request {
     Key,
     Malfunction(CpuNo),
     Emergency(CpuNo),
     ExternalCall(CpuNo),
+    Comparator,
+    Timer,
 }
 
 #[derive(Clone, Copy, Debug, PartialEq, Eq)]

@@ -1,6 +1,6 @@
 -- What is found by an opcode: the row of the number, and fields in range.
 use Rattle.std.proofs.Common.{◌≡◌, ℕ, ◌+◌, ◌<◌, ◌≤◌, Bool, true, false, cond, List, [], ◌∷◌, length, refl, arith, get_or, sym, ap, subst, ◌∙◌, add-one}
-use Rattle.std.specs.Prelude.{◌==◌, ◌/◌, ◌%◌, ◌*◌, not, nat_lt, Option, Some, None, IfSome, IfNone, find, position, slice_get, slice_index, codes}
+use Rattle.std.specs.Prelude.{◌==◌, ◌^◌, not, nat_lt, Option, Some, None, IfSome, IfNone, find, position, slice_get, slice_index}
 use Rattle.std.specs.List.{position_or_len}
 use Rattle.std.proofs.lemmas.Bool.Decides.{nat_tests}
 use Rattle.std.proofs.lemmas.Option.{slice_get_past, slice_get-get_or}
@@ -8,7 +8,8 @@ use Rattle.esa_model.specs.declared.instructions.Form.{Form}
 use Rattle.esa_model.specs.declared.instructions.Form.TheVariants.{Rr, Rx, Rs, Si, S, Ri, Rsi, Rre, Ss1, Ss2}
 use Rattle.esa_model.specs.declared.instructions.Row.{Row}
 use Rattle.esa_model.specs.declared.instructions.Decoded.{Decoded}
-use Rattle.esa_model.specs.Table.{entry, rows as table, row_of, row_at, row_numbered, number_of, decoded, fields_at, fields_of, opcode_of}
+use Rattle.esa_model.specs.Table.{rows as table, row_of, row_at, row_numbered, number_of, decoded, fields_at, fields_of, opcode_of, left, right, low12, halfword}
+use Rattle.esa_table.specs.Search.{blank}
 use Rattle.esa_table.specs.Encoding.{IsInRange, IsInstruction, HasOnly}
 
 -- ---- the first row that passes, and its number
@@ -36,15 +37,15 @@ no_place k len false e h = grind (arith, nat_tests)
 
 record Found (p : Row → Bool) (xs : List Row) (n : ℕ) : Type 0 where
   inside : n < length xs
-  at : slice_get xs n ≡ Some (get_or xs n (entry 0 Rr (codes "      ") false))
-  first : find p xs ≡ Some (get_or xs n (entry 0 Rr (codes "      ") false))
+  at : slice_get xs n ≡ Some (get_or xs n blank)
+  first : find p xs ≡ Some (get_or xs n blank)
 
 found : (p : Row → Bool) (xs : List Row) (n : ℕ) → position p xs ≡ Some n → Found p xs n
 found p xs n h =
     let k = position_or_len p xs in
     let at : Place k (length xs) n = some_place k (length xs) n (nat_lt k (length xs)) refl h in
     let l : n < length xs = omega (arith, at.same, at.inside) in
-    let there = slice_get-get_or xs n (entry 0 Rr (codes "      ") false) l in
+    let there = slice_get-get_or xs n blank l in
     record { inside = l; at = there; first = find_is p xs ∙ (ap (slice_get xs) at.same ∙ there) }
 
 absent : (p : Row → Bool) (xs : List Row) → position p xs ≡ None → find p xs ≡ None
@@ -55,7 +56,7 @@ absent p xs h =
 -- ---- of the table
 
 record IsRow (opcode n : ℕ) : Type 0 where
-  inside : n < 129
+  inside : n < 134
   at : row_at n ≡ Some (row_numbered n)
   row : row_of opcode ≡ Some (row_numbered n)
 
@@ -118,26 +119,154 @@ record IsOfForm (f : Form) (d : Decoded) : Type 0 where
   form : HasOnly f d
 
 -- the fields of bytes are in range
-byte_halves : (x : ℕ) → x < 256 → (x / 16 < 16) × (x % 16 < 16)
-byte_halves x h = (omega arith, omega arith)
+left_small : (bytes : List ℕ) (k : ℕ) → slice_index bytes k < 256 → left bytes k < 16
+left_small bytes k h = omega (arith, h)
 
-base_fits : (x y : ℕ) → x < 256 → y < 256 → x % 16 * 256 + y < 4096
-base_fits x y h k = omega arith
+right_small : (bytes : List ℕ) (k : ℕ) → right bytes k < 16
+right_small bytes k = omega arith
 
-of_form : (f : Form) (n : ℕ) (bytes : List ℕ) → ((k : ℕ) → slice_index bytes k < 256) → IsOfForm f (fields_of f n bytes)
-of_form Rr n bytes h = record { range = record { r1 = (omega (arith, h 0, h 1, h 2, h 3, h 4, h 5)); r2 = (omega (arith, h 0, h 1, h 2, h 3, h 4, h 5)); b1 = (omega (arith, h 0, h 1, h 2, h 3, h 4, h 5)); d1 = (omega (arith, h 0, h 1, h 2, h 3, h 4, h 5)); b2 = (omega (arith, h 0, h 1, h 2, h 3, h 4, h 5)); d2 = (omega (arith, h 0, h 1, h 2, h 3, h 4, h 5)); imm = (omega (arith, h 0, h 1, h 2, h 3, h 4, h 5)); len = (omega (arith, h 0, h 1, h 2, h 3, h 4, h 5)) }; form = (refl, refl, refl, refl, refl, refl) }
-of_form Rx n bytes h = record { range = record { r1 = (omega (arith, h 0, h 1, h 2, h 3, h 4, h 5)); r2 = (omega (arith, h 0, h 1, h 2, h 3, h 4, h 5)); b1 = (omega (arith, h 0, h 1, h 2, h 3, h 4, h 5)); d1 = (omega (arith, h 0, h 1, h 2, h 3, h 4, h 5)); b2 = (omega (arith, h 0, h 1, h 2, h 3, h 4, h 5)); d2 = (omega (arith, h 0, h 1, h 2, h 3, h 4, h 5)); imm = (omega (arith, h 0, h 1, h 2, h 3, h 4, h 5)); len = (omega (arith, h 0, h 1, h 2, h 3, h 4, h 5)) }; form = (refl, refl, refl, refl) }
-of_form Rs n bytes h = record { range = record { r1 = (omega (arith, h 0, h 1, h 2, h 3, h 4, h 5)); r2 = (omega (arith, h 0, h 1, h 2, h 3, h 4, h 5)); b1 = (omega (arith, h 0, h 1, h 2, h 3, h 4, h 5)); d1 = (omega (arith, h 0, h 1, h 2, h 3, h 4, h 5)); b2 = (omega (arith, h 0, h 1, h 2, h 3, h 4, h 5)); d2 = (omega (arith, h 0, h 1, h 2, h 3, h 4, h 5)); imm = (omega (arith, h 0, h 1, h 2, h 3, h 4, h 5)); len = (omega (arith, h 0, h 1, h 2, h 3, h 4, h 5)) }; form = (refl, refl, refl, refl) }
-of_form Si n bytes h = record { range = record { r1 = (omega (arith, h 0, h 1, h 2, h 3, h 4, h 5)); r2 = (omega (arith, h 0, h 1, h 2, h 3, h 4, h 5)); b1 = (omega (arith, h 0, h 1, h 2, h 3, h 4, h 5)); d1 = (omega (arith, h 0, h 1, h 2, h 3, h 4, h 5)); b2 = (omega (arith, h 0, h 1, h 2, h 3, h 4, h 5)); d2 = (omega (arith, h 0, h 1, h 2, h 3, h 4, h 5)); imm = (omega (arith, h 0, h 1, h 2, h 3, h 4, h 5)); len = (omega (arith, h 0, h 1, h 2, h 3, h 4, h 5)) }; form = (refl, refl, refl, refl, h 1, refl) }
-of_form S n bytes h = record { range = record { r1 = (omega (arith, h 0, h 1, h 2, h 3, h 4, h 5)); r2 = (omega (arith, h 0, h 1, h 2, h 3, h 4, h 5)); b1 = (omega (arith, h 0, h 1, h 2, h 3, h 4, h 5)); d1 = (omega (arith, h 0, h 1, h 2, h 3, h 4, h 5)); b2 = (omega (arith, h 0, h 1, h 2, h 3, h 4, h 5)); d2 = (omega (arith, h 0, h 1, h 2, h 3, h 4, h 5)); imm = (omega (arith, h 0, h 1, h 2, h 3, h 4, h 5)); len = (omega (arith, h 0, h 1, h 2, h 3, h 4, h 5)) }; form = (refl, refl, refl, refl, refl, refl) }
-of_form Ri n bytes h = record { range = record { r1 = (omega (arith, h 0, h 1, h 2, h 3, h 4, h 5)); r2 = (omega (arith, h 0, h 1, h 2, h 3, h 4, h 5)); b1 = (omega (arith, h 0, h 1, h 2, h 3, h 4, h 5)); d1 = (omega (arith, h 0, h 1, h 2, h 3, h 4, h 5)); b2 = (omega (arith, h 0, h 1, h 2, h 3, h 4, h 5)); d2 = (omega (arith, h 0, h 1, h 2, h 3, h 4, h 5)); imm = (omega (arith, h 0, h 1, h 2, h 3, h 4, h 5)); len = (omega (arith, h 0, h 1, h 2, h 3, h 4, h 5)) }; form = (refl, refl, refl, refl, refl, refl) }
-of_form Rsi n bytes h = record { range = record { r1 = (omega (arith, h 0, h 1, h 2, h 3, h 4, h 5)); r2 = (omega (arith, h 0, h 1, h 2, h 3, h 4, h 5)); b1 = (omega (arith, h 0, h 1, h 2, h 3, h 4, h 5)); d1 = (omega (arith, h 0, h 1, h 2, h 3, h 4, h 5)); b2 = (omega (arith, h 0, h 1, h 2, h 3, h 4, h 5)); d2 = (omega (arith, h 0, h 1, h 2, h 3, h 4, h 5)); imm = (omega (arith, h 0, h 1, h 2, h 3, h 4, h 5)); len = (omega (arith, h 0, h 1, h 2, h 3, h 4, h 5)) }; form = (refl, refl, refl, refl, refl) }
-of_form Rre n bytes h = record { range = record { r1 = (omega (arith, h 0, h 1, h 2, h 3, h 4, h 5)); r2 = (omega (arith, h 0, h 1, h 2, h 3, h 4, h 5)); b1 = (omega (arith, h 0, h 1, h 2, h 3, h 4, h 5)); d1 = (omega (arith, h 0, h 1, h 2, h 3, h 4, h 5)); b2 = (omega (arith, h 0, h 1, h 2, h 3, h 4, h 5)); d2 = (omega (arith, h 0, h 1, h 2, h 3, h 4, h 5)); imm = (omega (arith, h 0, h 1, h 2, h 3, h 4, h 5)); len = (omega (arith, h 0, h 1, h 2, h 3, h 4, h 5)) }; form = (refl, refl, refl, refl, refl, refl) }
-of_form Ss1 n bytes h = record { range = record { r1 = (omega (arith, h 0, h 1, h 2, h 3, h 4, h 5)); r2 = (omega (arith, h 0, h 1, h 2, h 3, h 4, h 5)); b1 = (omega (arith, h 0, h 1, h 2, h 3, h 4, h 5)); d1 = (omega (arith, h 0, h 1, h 2, h 3, h 4, h 5)); b2 = (omega (arith, h 0, h 1, h 2, h 3, h 4, h 5)); d2 = (omega (arith, h 0, h 1, h 2, h 3, h 4, h 5)); imm = (omega (arith, h 0, h 1, h 2, h 3, h 4, h 5)); len = (omega (arith, h 0, h 1, h 2, h 3, h 4, h 5)) }; form = (refl, refl, refl) }
-of_form Ss2 n bytes h = record { range = record { r1 = (omega (arith, h 0, h 1, h 2, h 3, h 4, h 5)); r2 = (omega (arith, h 0, h 1, h 2, h 3, h 4, h 5)); b1 = (omega (arith, h 0, h 1, h 2, h 3, h 4, h 5)); d1 = (omega (arith, h 0, h 1, h 2, h 3, h 4, h 5)); b2 = (omega (arith, h 0, h 1, h 2, h 3, h 4, h 5)); d2 = (omega (arith, h 0, h 1, h 2, h 3, h 4, h 5)); imm = (omega (arith, h 0, h 1, h 2, h 3, h 4, h 5)); len = (omega (arith, h 0, h 1, h 2, h 3, h 4, h 5)) }; form = (refl, refl) }
+low12_small : (bytes : List ℕ) (k : ℕ) → slice_index bytes (k + 1) < 256 → low12 bytes k < 4096
+low12_small bytes k h = omega (arith, h)
 
-instruction_by : (bytes : List ℕ) (o : Option ℕ) → number_of (opcode_of bytes) ≡ o → ((k : ℕ) → slice_index bytes k < 256)
-    → IfSome (fields_at bytes o) IsInstruction
+halfword_small : (bytes : List ℕ) → slice_index bytes 2 < 256 → slice_index bytes 3 < 256
+    → halfword bytes < 2 ^ 16
+halfword_small bytes h g = omega (arith, h, g)
+
+of_form : (f : Form) (n : ℕ) (bytes : List ℕ) → ((k : ℕ) → slice_index bytes k < 256)
+    → IsOfForm f (fields_of f n bytes)
+of_form Rr n bytes h = record {
+  range = record {
+    r1 = left_small bytes 1 (h 1);
+    r2 = right_small bytes 1;
+    b1 = omega arith;
+    d1 = omega arith;
+    b2 = omega arith;
+    d2 = omega arith;
+    imm = omega arith;
+    len = omega arith;
+  };
+  form = (refl, refl, refl, refl, refl, refl);
+}
+of_form Rx n bytes h = record {
+  range = record {
+    r1 = left_small bytes 1 (h 1);
+    r2 = right_small bytes 1;
+    b1 = omega arith;
+    d1 = omega arith;
+    b2 = left_small bytes 2 (h 2);
+    d2 = low12_small bytes 2 (h 3);
+    imm = omega arith;
+    len = omega arith;
+  };
+  form = (refl, refl, refl, refl);
+}
+of_form Rs n bytes h = record {
+  range = record {
+    r1 = left_small bytes 1 (h 1);
+    r2 = right_small bytes 1;
+    b1 = omega arith;
+    d1 = omega arith;
+    b2 = left_small bytes 2 (h 2);
+    d2 = low12_small bytes 2 (h 3);
+    imm = omega arith;
+    len = omega arith;
+  };
+  form = (refl, refl, refl, refl);
+}
+of_form Si n bytes h = record {
+  range = record {
+    r1 = omega arith;
+    r2 = omega arith;
+    b1 = left_small bytes 2 (h 2);
+    d1 = low12_small bytes 2 (h 3);
+    b2 = omega arith;
+    d2 = omega arith;
+    imm = let b = h 1 in omega (arith, b);
+    len = omega arith;
+  };
+  form = (refl, refl, refl, refl, h 1, refl);
+}
+of_form S n bytes h = record {
+  range = record {
+    r1 = omega arith;
+    r2 = omega arith;
+    b1 = omega arith;
+    d1 = omega arith;
+    b2 = left_small bytes 2 (h 2);
+    d2 = low12_small bytes 2 (h 3);
+    imm = omega arith;
+    len = omega arith;
+  };
+  form = (refl, refl, refl, refl, refl, refl);
+}
+of_form Ri n bytes h = record {
+  range = record {
+    r1 = left_small bytes 1 (h 1);
+    r2 = omega arith;
+    b1 = omega arith;
+    d1 = omega arith;
+    b2 = omega arith;
+    d2 = omega arith;
+    imm = halfword_small bytes (h 2) (h 3);
+    len = omega arith;
+  };
+  form = (refl, refl, refl, refl, refl, refl);
+}
+of_form Rsi n bytes h = record {
+  range = record {
+    r1 = left_small bytes 1 (h 1);
+    r2 = right_small bytes 1;
+    b1 = omega arith;
+    d1 = omega arith;
+    b2 = omega arith;
+    d2 = omega arith;
+    imm = halfword_small bytes (h 2) (h 3);
+    len = omega arith;
+  };
+  form = (refl, refl, refl, refl, refl);
+}
+of_form Rre n bytes h = record {
+  range = record {
+    r1 = left_small bytes 3 (h 3);
+    r2 = right_small bytes 3;
+    b1 = omega arith;
+    d1 = omega arith;
+    b2 = omega arith;
+    d2 = omega arith;
+    imm = omega arith;
+    len = omega arith;
+  };
+  form = (refl, refl, refl, refl, refl, refl);
+}
+of_form Ss1 n bytes h = record {
+  range = record {
+    r1 = omega arith;
+    r2 = omega arith;
+    b1 = left_small bytes 2 (h 2);
+    d1 = low12_small bytes 2 (h 3);
+    b2 = left_small bytes 4 (h 4);
+    d2 = low12_small bytes 4 (h 5);
+    imm = omega arith;
+    len = h 1;
+  };
+  form = (refl, refl, refl);
+}
+of_form Ss2 n bytes h = record {
+  range = record {
+    r1 = left_small bytes 1 (h 1);
+    r2 = right_small bytes 1;
+    b1 = left_small bytes 2 (h 2);
+    d1 = low12_small bytes 2 (h 3);
+    b2 = left_small bytes 4 (h 4);
+    d2 = low12_small bytes 4 (h 5);
+    imm = omega arith;
+    len = omega arith;
+  };
+  form = (refl, refl);
+}
+
+instruction_by : (bytes : List ℕ) (o : Option ℕ) → number_of (opcode_of bytes) ≡ o
+    → ((k : ℕ) → slice_index bytes k < 256) → IfSome (fields_at bytes o) IsInstruction
 instruction_by bytes None h small = tt
 instruction_by bytes (Some n) h small =
     let f = (row_numbered n).form in

@@ -1,13 +1,12 @@
 -- What a test of all rows says of each of them.
 use Rattle.std.proofs.Common.{◌≡◌, ℕ, ◌+◌, ◌<◌, Bool, true, false, List, [], ◌∷◌, length, refl, arith, rules, get_or, sym, ap, subst, ◌∙◌}
-use Rattle.std.specs.Prelude.{zero, suc, ◌==◌, ◌&&◌, IsTrue, Option, Some, None, codes}
+use Rattle.std.specs.Prelude.{zero, suc, ◌==◌, ◌&&◌, IsTrue, Option, Some, None}
 use Rattle.std.proofs.lemmas.Bool.Decides.{nat_tests}
-use Rattle.esa_model.specs.declared.instructions.Form.TheVariants.{Rr}
 use Rattle.esa_model.specs.declared.instructions.Row.{Row}
 use Rattle.esa_model.specs.declared.instructions.Decoded.{Decoded}
-use Rattle.esa_model.specs.Table.{entry, rows as table, row_numbered, number_of, decoded, fields_at, opcode_of}
+use Rattle.esa_model.specs.Table.{rows as table, row_numbered, number_of, decoded, fields_at, opcode_of}
 use Rattle.esa_table.specs.Encoding.{fits}
-use Rattle.esa_table.specs.Search.{decoded_in, fields_in, number_in}
+use Rattle.esa_table.specs.Search.{blank, decoded_in, fields_in, number_in}
 
 abbrev pub is_number : ℕ → Option ℕ → Bool
 is_number n None = false
@@ -58,16 +57,15 @@ pub record IsKnown (n : ℕ) : Type 0 where
   pub fit : IsTrue (fits (row_numbered n).form (row_numbered n).opcode)
   pub number : number_of (row_numbered n).opcode ≡ Some n
 
-pub is_known_row : (n : ℕ) → n < 129 → IsKnown n
+pub is_known_row : (n : ℕ) → n < 134 → IsKnown n
 unfolding row_numbered
 is_known_row n l =
-    let blank = entry 0 Rr (codes "      ") false in
     let r : Row = get_or table n blank in
     let h : IsTrue (is_known n r) = known_at table 0 n n blank all_rows_known l (omega arith) in
     let parts = both (fits r.form r.opcode) (is_number n (number_of r.opcode)) h in
     record { fit = parts.0; number = is_the_number n (number_of r.opcode) parts.1 }
 
-pub fits_at : (n : ℕ) → n < 129 → IsTrue (fits (row_numbered n).form (row_numbered n).opcode)
+pub fits_at : (n : ℕ) → n < 134 → IsTrue (fits (row_numbered n).form (row_numbered n).opcode)
 fits_at n l = (is_known_row n l).fit
 
 pub decoded_by : (rs : List Row) (bytes : List ℕ) → rs ≡ table → decoded_in rs bytes ≡ decoded bytes

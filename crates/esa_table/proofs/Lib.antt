@@ -1,3 +1,4 @@
 pub mod Known
 pub mod Round
 pub mod Found
+pub mod RowKinds

@@ -40,22 +40,68 @@ s_short o e t = grind (arith, nat_tests)
 s_long : (o : ℕ) → nat_lt o 256 ≡ false → IsTrue (fits S o) → number_by (o / 256) (o % 256) ≡ o
 s_long o e t = grind (arith, nat_tests)
 
-s_reads_back : (o : ℕ) (d : Decoded) (b : Bool) → nat_lt o 256 ≡ b → IsTrue (fits S o) → IsInRange d → HasOnly S d
-    → ReadsBack S o d (filled (if b then o ∷ 0 ∷ based d.b2 d.d2 [] else two_bytes o (based d.b2 d.d2 [])))
-s_reads_back o d true e t r h = record { opcode = s_short o e t; fields = same_fields _ _ _ _ _ _ _ _ _ d refl (omega arith) (omega arith) (omega arith) (omega arith) (omega arith) (omega arith) (omega arith) (omega arith) }
-s_reads_back o d false e t r h = record { opcode = s_long o e t; fields = same_fields _ _ _ _ _ _ _ _ _ d refl (omega arith) (omega arith) (omega arith) (omega arith) (omega arith) (omega arith) (omega arith) (omega arith) }
+s_reads_back : (o : ℕ) (d : Decoded) (b : Bool) → nat_lt o 256 ≡ b
+    → IsTrue (fits S o) → IsInRange d → HasOnly S d
+    → ReadsBack S o d (filled
+    (if b then o ∷ 0 ∷ based d.b2 d.d2 [] else two_bytes o (based d.b2 d.d2 [])))
+s_reads_back o d true e t r h = record {
+  opcode = s_short o e t;
+  fields = same_fields _ _ _ _ _ _ _ _ _ d refl (omega arith) (omega arith) (omega arith)
+      (omega arith) (omega arith) (omega arith) (omega arith) (omega arith);
+}
+s_reads_back o d false e t r h = record {
+  opcode = s_long o e t;
+  fields = same_fields _ _ _ _ _ _ _ _ _ d refl (omega arith) (omega arith) (omega arith)
+      (omega arith) (omega arith) (omega arith) (omega arith) (omega arith);
+}
 
 read_back : (f : Form) (o : ℕ) (d : Decoded) → IsTrue (fits f o) → IsInRange d → HasOnly f d → ReadsBack f o d (filled (encoded f o d))
-read_back Rr o d t r h = record { opcode = short_opcode 0 64 o _ t; fields = same_fields _ _ _ _ _ _ _ _ _ d refl (omega arith) (omega arith) (omega arith) (omega arith) (omega arith) (omega arith) (omega arith) (omega arith) }
-read_back Rx o d t r h = record { opcode = short_opcode 64 192 o _ t; fields = same_fields _ _ _ _ _ _ _ _ _ d refl (omega arith) (omega arith) (omega arith) (omega arith) (omega arith) (omega arith) (omega arith) (omega arith) }
-read_back Rs o d t r h = record { opcode = short_opcode 64 192 o _ t; fields = same_fields _ _ _ _ _ _ _ _ _ d refl (omega arith) (omega arith) (omega arith) (omega arith) (omega arith) (omega arith) (omega arith) (omega arith) }
-read_back Si o d t r h = record { opcode = short_opcode 64 192 o _ t; fields = same_fields _ _ _ _ _ _ _ _ _ d refl (omega arith) (omega arith) (omega arith) (omega arith) (omega arith) (omega arith) (omega arith) (omega arith) }
+read_back Rr o d t r h = record {
+  opcode = short_opcode 0 64 o _ t;
+  fields = same_fields _ _ _ _ _ _ _ _ _ d refl (omega arith) (omega arith) (omega arith)
+      (omega arith) (omega arith) (omega arith) (omega arith) (omega arith);
+}
+read_back Rx o d t r h = record {
+  opcode = short_opcode 64 192 o _ t;
+  fields = same_fields _ _ _ _ _ _ _ _ _ d refl (omega arith) (omega arith) (omega arith)
+      (omega arith) (omega arith) (omega arith) (omega arith) (omega arith);
+}
+read_back Rs o d t r h = record {
+  opcode = short_opcode 64 192 o _ t;
+  fields = same_fields _ _ _ _ _ _ _ _ _ d refl (omega arith) (omega arith) (omega arith)
+      (omega arith) (omega arith) (omega arith) (omega arith) (omega arith);
+}
+read_back Si o d t r h = record {
+  opcode = short_opcode 64 192 o _ t;
+  fields = same_fields _ _ _ _ _ _ _ _ _ d refl (omega arith) (omega arith) (omega arith)
+      (omega arith) (omega arith) (omega arith) (omega arith) (omega arith);
+}
 read_back S o d t r h = s_reads_back o d (nat_lt o 256) refl t r h
-read_back Ri o d t r h = record { opcode = half_opcode o d.r1 t; fields = same_fields _ _ _ _ _ _ _ _ _ d refl (omega arith) (omega arith) (omega arith) (omega arith) (omega arith) (omega arith) (omega arith) (omega arith) }
-read_back Rsi o d t r h = record { opcode = short_opcode 64 192 o _ t; fields = same_fields _ _ _ _ _ _ _ _ _ d refl (omega arith) (omega arith) (omega arith) (omega arith) (omega arith) (omega arith) (omega arith) (omega arith) }
-read_back Rre o d t r h = record { opcode = long_opcode o t; fields = same_fields _ _ _ _ _ _ _ _ _ d refl (omega arith) (omega arith) (omega arith) (omega arith) (omega arith) (omega arith) (omega arith) (omega arith) }
-read_back Ss1 o d t r h = record { opcode = short_opcode 192 256 o _ t; fields = same_fields _ _ _ _ _ _ _ _ _ d refl (omega arith) (omega arith) (omega arith) (omega arith) (omega arith) (omega arith) (omega arith) (omega arith) }
-read_back Ss2 o d t r h = record { opcode = short_opcode 192 256 o _ t; fields = same_fields _ _ _ _ _ _ _ _ _ d refl (omega arith) (omega arith) (omega arith) (omega arith) (omega arith) (omega arith) (omega arith) (omega arith) }
+read_back Ri o d t r h = record {
+  opcode = half_opcode o d.r1 t;
+  fields = same_fields _ _ _ _ _ _ _ _ _ d refl (omega arith) (omega arith) (omega arith)
+      (omega arith) (omega arith) (omega arith) (omega arith) (omega arith);
+}
+read_back Rsi o d t r h = record {
+  opcode = short_opcode 64 192 o _ t;
+  fields = same_fields _ _ _ _ _ _ _ _ _ d refl (omega arith) (omega arith) (omega arith)
+      (omega arith) (omega arith) (omega arith) (omega arith) (omega arith);
+}
+read_back Rre o d t r h = record {
+  opcode = long_opcode o t;
+  fields = same_fields _ _ _ _ _ _ _ _ _ d refl (omega arith) (omega arith) (omega arith)
+      (omega arith) (omega arith) (omega arith) (omega arith) (omega arith);
+}
+read_back Ss1 o d t r h = record {
+  opcode = short_opcode 192 256 o _ t;
+  fields = same_fields _ _ _ _ _ _ _ _ _ d refl (omega arith) (omega arith) (omega arith)
+      (omega arith) (omega arith) (omega arith) (omega arith) (omega arith);
+}
+read_back Ss2 o d t r h = record {
+  opcode = short_opcode 192 256 o _ t;
+  fields = same_fields _ _ _ _ _ _ _ _ _ d refl (omega arith) (omega arith) (omega arith)
+      (omega arith) (omega arith) (omega arith) (omega arith) (omega arith);
+}
 
 found : (bytes : List ℕ) (d : Decoded) (o : ℕ) → opcode_of bytes ≡ o → number_of o ≡ Some d.row
     → fields_of (row_numbered d.row).form d.row bytes ≡ d → decoded bytes ≡ Some d

@@ -1,11 +1,12 @@
 -- The bytes of an instruction.
--- Source: Principles of Operation, chapter on program execution (instruction formats). That the bits which a form
--- ignores are written as zeros is a choice of this project.
-use Rattle.std.specs.Prelude.{ℕ, ◌≡◌, ◌+◌, ◌-◌, ◌*◌, ◌/◌, ◌%◌, ◌^◌, ◌<◌, nat_lt, nat_le, ◌==◌, ◌&&◌, ◌||◌, not, Bool, if◌then◌else◌, List, [], ◌∷◌, ◌++◌, length, replicate}
+-- Source: Principles of Operation, chapter on program execution (instruction formats). That the
+-- bits which a form ignores are written as zeros is a choice of this project.
+use Rattle.std.specs.Prelude.{ℕ, ◌≡◌, ◌+◌, ◌-◌, ◌*◌, ◌/◌, ◌%◌, ◌^◌, ◌<◌, nat_lt, nat_le, ◌==◌, ◌&&◌, ◌||◌, not, Bool, true, if◌then◌else◌, List, [], ◌∷◌, ◌++◌, length, replicate}
 use Rattle.esa_model.specs.declared.instructions.Form.{Form}
 use Rattle.esa_model.specs.declared.instructions.Form.TheVariants.{Rr, Rx, Rs, Si, S, Ri, Rsi, Rre, Ss1, Ss2}
 use Rattle.esa_model.specs.declared.instructions.Decoded.{Decoded}
-use Rattle.esa_model.specs.Table.{row_numbered}
+use Rattle.esa_model.specs.Table.{row_numbered, kind_numbered}
+use Rattle.esa_model.specs.Rows.All.{is_of_kind}
 
 -- the fields that a form has not are zero, and its immediate byte is one
 abbrev pub HasOnly : Form → Decoded → Type 0
@@ -31,11 +32,16 @@ pub record IsInRange (d : Decoded) : Type 0 where
   pub imm : d.imm < 2 ^ 16
   pub len : d.len < 2 ^ 8
 
--- an instruction of the table: the number of a row, fields in range, and zeros where the form has no field
+-- an instruction of the table: the number of a row, fields in range, and zeros where the form has
+-- no field
 pub record IsInstruction (d : Decoded) : Type 0 where
-  pub row : d.row < 129
+  pub row : d.row < 134
   pub range : IsInRange d
   pub form : HasOnly (row_numbered d.row).form d
+
+-- the values that the line of its row names are defined
+abbrev pub HasLine : Decoded → Type 0
+HasLine d = is_of_kind (kind_numbered d.row) (row_numbered d.row).opcode ≡ true
 
 -- an opcode of one byte within bounds that is not one of the two bytes which begin longer ones
 abbrev pub is_short : ℕ → ℕ → ℕ → Bool
@@ -80,6 +86,10 @@ encoded Rsi o d = o ∷ halves d.r1 d.r2 ∷ two_bytes d.imm []
 encoded Rre o d = two_bytes o (0 ∷ halves d.r1 d.r2 ∷ [])
 encoded Ss1 o d = o ∷ d.len ∷ based d.b1 d.d1 (based d.b2 d.d2 [])
 encoded Ss2 o d = o ∷ halves d.r1 d.r2 ∷ based d.b1 d.d1 (based d.b2 d.d2 [])
+
+-- the same by the number of its row
+abbrev pub instruction_bytes : Decoded → List ℕ
+instruction_bytes d = encoded (row_numbered d.row).form (row_numbered d.row).opcode d
 
 -- bytes filled up with zeros to six
 abbrev pub filled : List ℕ → List ℕ

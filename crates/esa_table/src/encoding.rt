@@ -2,7 +2,8 @@
 
 ghost use Rattle.std.specs.Prelude.{◌≡◌, ◌/◌, ◌%◌, ◌<◌, [], ◌∷◌, length, slice_index, IsTrue, Some};
 ghost use Rattle.esa_model.specs.Table.{decoded, length_of};
-ghost use Rattle.esa_table.specs.Encoding.{encoded, filled, fits, halves, HasOnly, IsInRange, IsInstruction};
+ghost use Rattle.esa_table.specs.Encoding.{encoded, instruction_bytes, filled, fits, halves};
+ghost use Rattle.esa_table.specs.Encoding.{HasOnly, IsInRange, IsInstruction};
 
 use crate::table::numbered_row;
 use arrayvec::ArrayVec;
@@ -133,6 +134,7 @@ fn bytes_by(form: Form, opcode: u16, d: &Decoded) -> ArrayVec<u8, 6>
 #[tactic(auto, using(crate::proofs::Round::round, crate::proofs::Round::length_encoded))]
 pub fn encode(d: &Decoded) -> ArrayVec<u8, 6>
     requires { IsInstruction d.now }
+    ensures is { result.items ≡ instruction_bytes d.now }
     ensures length { length result.items ≡ length_of (slice_index result.items 0) }
     ensures decodes { decoded (filled result.items) ≡ Some d.now }
 {

@@ -5,7 +5,8 @@ ghost use Rattle.esa_model.specs.Table.{opcode_of, left, right, low12, halfword,
 
 use esa_model::instructions::{Decoded, Form};
 
-/// The number of the opcode: two bytes after X'B2', one and the right half of the next after X'A7', else one.
+/// The number of the opcode: two bytes after X'B2', one and the right half of the next after X'A7',
+/// else one.
 pub(crate) fn opcode_by(bytes: &[u8; 6]) -> u16
     ensures { result ≡ opcode_of bytes.now }
 {

@@ -10,4 +10,5 @@ mod tests;
 
 pub use encoding::encode;
 pub use esa_model::instructions::{Decoded, Form, Row};
-pub use table::{Table, decode, row};
+pub use esa_model::kinds::Kind;
+pub use table::{Table, decode, kind, row};

@@ -1,13 +1,16 @@
 //! A table of rows, and the numbers of its rows.
 
-ghost use Rattle.std.specs.Prelude.{◌≡◌, ◌≤◌, ◌<◌, ◌^◌, length, slice_get, IfSome, IfNone, IsTrue, Some, None};
-ghost use Rattle.esa_table.specs.Encoding.{fits, IsInRange, IsInstruction};
-ghost use Rattle.esa_model.specs.Table.{decoded, opcode_of, row_of, row_numbered, rows, row_at, fields_of};
+ghost use Rattle.std.specs.Prelude.{◌≡◌, ◌≤◌, ◌<◌, ◌^◌, length, slice_get, IfSome, IfNone, IsTrue};
+ghost use Rattle.std.specs.Prelude.{Some, None};
+ghost use Rattle.esa_table.specs.Encoding.{fits, HasLine, IsInRange, IsInstruction};
+ghost use Rattle.esa_model.specs.Table.{decoded, opcode_of, row_of, row_numbered, rows, row_at};
+ghost use Rattle.esa_model.specs.Table.{fields_of, kinds, kind_at, kind_numbered};
 ghost use Rattle.esa_table.specs.Search.{decoded_in, number_in, row_in};
 
 use crate::fields::{fields_by, opcode_by};
-use crate::rows::ROWS;
+use crate::rows::{KINDS, ROWS};
 use esa_model::instructions::{Decoded, Row};
+use esa_model::kinds::Kind;
 
 /// `N` rows; the number of a row is its place, from 0.
 #[derive(Clone, Copy)]
@@ -26,7 +29,8 @@ macro_rules! search {
 }
 
 impl<const N: usize> Table<N> {
-    /// The instruction that the bytes begin with, by these rows; None exactly where no row has its opcode.
+    /// The instruction that the bytes begin with, by these rows; None exactly where no row has its
+    /// opcode.
     pub fn decode(&self, bytes: &[u8; 6]) -> Option<Decoded>
         requires { N ≤ 2 ^ 16 }
         ensures { result ≡ decoded_in self.now.rows.now bytes.now }
@@ -56,7 +60,7 @@ fn fields_at_place(rows: &[Row], number: usize, bytes: &[u8; 6]) -> Decoded
 }
 
 /// All rows.
-pub(crate) fn all_rows() -> Table<129>
+pub(crate) fn all_rows() -> Table<134>
     ensures { result.rows.now ≡ rows }
 {
     Table { rows: &ROWS }
@@ -77,6 +81,27 @@ pub fn row(number: u16) -> Option<Row>
     row_among(rows, number)
 }
 
+/// The kinds of all rows.
+fn all_kinds() -> &'static [Kind]
+    ensures { result.now ≡ kinds }
+{
+    &KINDS
+}
+
+/// How the row of a number is carried out; None exactly where the table has none.
+#[tactic(auto, unfolding(esa_model::specs::Table::kind_at))]
+pub fn kind(number: u16) -> Option<Kind>
+    ensures { result ≡ kind_at number }
+{
+    kind_among(all_kinds(), number)
+}
+
+fn kind_among(kinds: &[Kind], number: u16) -> Option<Kind>
+    ensures { result ≡ slice_get kinds.now number }
+{
+    kinds.get(number as usize).copied()
+}
+
 /// The instruction that the bytes begin with; None exactly where no row has its opcode.
 #[tactic(auto, using(crate::proofs::Known::decoded_is, crate::proofs::Found::is_absent))]
 pub fn decode(bytes: &[u8; 6]) -> Option<Decoded>
@@ -86,6 +111,8 @@ pub fn decode(bytes: &[u8; 6]) -> Option<Decoded>
     ensures number { IfSome result (λ d. row_at d.row ≡ Some (row_numbered d.row)) }
     ensures instruction { IfSome result IsInstruction }
     ensures range { IfSome result IsInRange }
+    ensures kind { IfSome result (λ d. kind_at d.row ≡ Some (kind_numbered d.row)) }
+    ensures known { IfSome result HasLine }
 {
     all_rows().decode(bytes)
 }
@@ -100,7 +127,7 @@ fn row_inside(rows: &[Row], number: u16) -> Row
 /// The row of a number that the table has.
 #[tactic(auto, using(crate::proofs::Known::fits_at), unfolding(esa_model::specs::Table::row_numbered))]
 pub(crate) fn numbered_row(number: u16) -> Row
-    requires { number < 129 }
+    requires { number < 134 }
     ensures row { result ≡ row_numbered number }
     ensures fits { IsTrue (fits result.form result.opcode) }
 {

@@ -1,4 +1,5 @@
-use crate::{Decoded, decode, encode, row};
+use crate::{Decoded, Kind, decode, encode, kind, row};
+use esa_model::kinds::{BranchKind, ByteKind, ControlKind, DecimalKind, StoreKind, WordKind};
 
 const NO_FIELDS: Decoded = Decoded {
     row: 0,
@@ -16,7 +17,7 @@ const NO_FIELDS: Decoded = Decoded {
 type Case = ([u8; 6], usize, [u8; 6], Decoded);
 
 /// One instruction of each form, at the ends of the table among others.
-const CASES: [Case; 16] = [
+const CASES: [Case; 17] = [
     (
         [0x04, 0x30, 0, 0, 0, 0],
         2,
@@ -81,6 +82,16 @@ const CASES: [Case; 16] = [
         [0x93, 0x00, 0x18, 0x01, 0, 0],
         4,
         *b"TS    ",
+        Decoded {
+            b2: 1,
+            d2: 0x801,
+            ..NO_FIELDS
+        },
+    ),
+    (
+        [0xB2, 0x05, 0x18, 0x01, 0, 0],
+        4,
+        *b"STCK  ",
         Decoded {
             b2: 1,
             d2: 0x801,
@@ -222,5 +233,29 @@ fn no_row(rt: HostRuntime) {
     ] {
         assert!(rt; decode(&bytes).is_none());
     }
-    assert!(rt; row(128).is_some() && row(129).is_none());
+    assert!(rt; row(134).is_none() && kind(134).is_none());
+}
+
+/// The first two bytes of an instruction, and how it is carried out.
+const KINDS: [(u8, u8, Kind); 6] = [
+    // AR
+    (0x1A, 0x12, Kind::Words(WordKind::Registers)),
+    // BC
+    (0x47, 0xF0, Kind::Branches(BranchKind::ByIndex)),
+    // TM
+    (0x91, 0x80, Kind::Stores(StoreKind::TestUnderMask)),
+    // MVCL
+    (0x0E, 0x24, Kind::Bytes(ByteKind::MoveLong)),
+    // CP
+    (0xF9, 0x33, Kind::Decimals(DecimalKind::Compared)),
+    // SPT
+    (0xB2, 0x08, Kind::Controls(ControlKind::SetsClock)),
+];
+
+#[test]
+fn one_of_each_class(rt: HostRuntime) {
+    for (first, second, want) in KINDS {
+        let found = decode(&[first, second, 0, 0, 0, 0]).and_then(|d| kind(d.row));
+        assert_eq!(rt; found, Some(want), "another kind for {first}");
+    }
 }

@@ -9,12 +9,17 @@ use Rattle.std.proofs.lemmas.Fmt.{decimal_step, decimal_is_IsNumeral, decimal_di
 use Rattle.std.proofs.lemmas.Str.Parse.{IsDigitsTest, IsNumeralModel, numerals_by_value}
 use Rattle.std.proofs.lemmas.Int.Digits.{digits_value_more}
 use Rattle.std.proofs.lemmas.Bool.Decides.{nat_tests}
-use Rattle.esa_model.specs.Numbers.{is_decimal, number_up_to}
+use Rattle.run_model.specs.Numbers.{is_decimal, number_up_to}
 
-pub length_step : (n : ℕ) → 10 ≤ n → n < 2 ^ 64 → length (decimal n) ≡ length (decimal (n / 10)) + 1
-length_step n h g = ap length (decimal_step n h g) ∙ length-append (decimal (n / 10)) ((48 + n % 10) ∷ [])
+pub length_step :
+    (n : ℕ) → 10 ≤ n → n < 2 ^ 64 → length (decimal n) ≡ length (decimal (n / 10)) + 1
+length_step n h g =
+    ap length (decimal_step n h g)
+    ∙ length-append (decimal (n / 10)) ((48 + n % 10) ∷ [])
 
-pub digit_at : (t : List ℕ) (i : ℕ) → i < length t → list_all is_ascii_digit t ≡ true → is_ascii_digit (get_or t i 0) ≡ true
+pub digit_at :
+    (t : List ℕ) (i : ℕ) → i < length t → list_all is_ascii_digit t ≡ true
+    → is_ascii_digit (get_or t i 0) ≡ true
 digit_at [] i lt h = absurd (omega arith)
 digit_at (x ∷ xs) zero lt h = grind (arith, nat_tests)
 digit_at (x ∷ xs) (suc i) lt h = digit_at xs i (omega arith) (grind (arith, nat_tests))
@@ -22,7 +27,11 @@ digit_at (x ∷ xs) (suc i) lt h = digit_at xs i (omega arith) (grind (arith, na
 pub digit_is : (b : ℕ) → is_ascii_digit b ≡ true → (48 ≤ b) × (b ≤ 57) × (digit_value b ≡ b - 48)
 digit_is b h = (grind (arith, nat_tests), grind (arith, nat_tests), grind (arith, nat_tests))
 
-pub clipped_more : (t : List ℕ) (i v most : ℕ) → i < length t → list_all is_ascii_digit t ≡ true → v ≡ min (digits_value 10 (take i t)) (most + 1) → min (v * 10 + (get_or t i 0 - 48)) (most + 1) ≡ min (digits_value 10 (take (i + 1) t)) (most + 1)
+pub clipped_more :
+    (t : List ℕ) (i v most : ℕ) → i < length t → list_all is_ascii_digit t ≡ true
+    → v ≡ min (digits_value 10 (take i t)) (most + 1)
+    → min (v * 10 + (get_or t i 0 - 48)) (most + 1)
+    ≡ min (digits_value 10 (take (i + 1) t)) (most + 1)
 clipped_more t i v most lt h e =
     let m = digits_value_more 10 t i lt in
     let d = digit_is (get_or t i 0) (digit_at t i lt h) in
@@ -49,14 +58,26 @@ pub record Parts (t : List ℕ) : Type 0 where
 
 pub parts_of : (t : List ℕ) → is_decimal t ≡ true → Parts t
 unfolding is_decimal
-parts_of t h = record { some = grind (arith, nat_tests); digits = grind (arith, nat_tests); needed = λ z. grind (arith, nat_tests) }
+parts_of t h = record {
+  some = grind (arith, nat_tests);
+  digits = grind (arith, nat_tests);
+  needed = λ z. grind (arith, nat_tests);
+}
 
 whole : (t : List ℕ) → Parts t → is_decimal t ≡ true
 unfolding is_decimal
-whole t p = let some = p.some in let digits = p.digits in let needed = p.needed in grind (arith, nat_tests)
+whole t p =
+    let some = p.some in
+    let digits = p.digits in
+    let needed = p.needed in
+    grind (arith, nat_tests)
 
-pub text_of : (t : List ℕ) → is_decimal t ≡ true → digits_value 10 t < 2 ^ 64 → t ≡ decimal (digits_value 10 t)
-text_of t h small = let p = parts_of t h in sym (decimal-digits_value own t p.digits p.some p.needed small)
+pub text_of :
+    (t : List ℕ) → is_decimal t ≡ true → digits_value 10 t < 2 ^ 64
+    → t ≡ decimal (digits_value 10 t)
+text_of t h small =
+    let p = parts_of t h in
+    sym (decimal-digits_value own t p.digits p.some p.needed small)
 
 needed_zero : (n : ℕ) → n < 2 ^ 64 → get_or (decimal n) 0 0 ≡ 48 → length (decimal n) ≡ 1
 needed_zero zero h z = ap length (decimal_digit 0 (omega arith))
@@ -80,21 +101,29 @@ not_decimal most t h = rw h refl
 
 pub too_great : (most : ℕ) (t : List ℕ) → most < digits_value 10 t → number_up_to most t ≡ None
 unfolding number_up_to
-too_great most t h = let no : nat_le (digits_value 10 t) most ≡ false = grind (arith, nat_tests) in elim (cases_bool (is_decimal t)) [
-  | inl y ↦ rw (y, no) refl
-  | inr n ↦ rw n refl
-]
+too_great most t h =
+    let no : nat_le (digits_value 10 t) most ≡ false = grind (arith, nat_tests) in
+    elim (cases_bool (is_decimal t)) [
+      | inl y ↦ rw (y, no) refl
+      | inr n ↦ rw n refl
+    ]
 
-pub is_number : (most : ℕ) (t : List ℕ) → is_decimal t ≡ true → digits_value 10 t ≤ most → number_up_to most t ≡ Some (digits_value 10 t)
+pub is_number :
+    (most : ℕ) (t : List ℕ) → is_decimal t ≡ true → digits_value 10 t ≤ most
+    → number_up_to most t ≡ Some (digits_value 10 t)
 unfolding number_up_to
-is_number most t h le = let yes : nat_le (digits_value 10 t) most ≡ true = grind (arith, nat_tests) in rw (h, yes) refl
+is_number most t h le =
+    let yes : nat_le (digits_value 10 t) most ≡ true = grind (arith, nat_tests) in
+    rw (h, yes) refl
 
 pub of_text : (most n : ℕ) → n ≤ most → most < 2 ^ 64 → number_up_to most (decimal n) ≡ Some n
 of_text most n le h =
     let v : digits_value 10 (decimal n) ≡ n = (decimal_is_IsNumeral n (omega arith)).1 in
     is_number most (decimal n) (is_decimal_text n (omega arith)) (omega arith) ∙ ap (λ x. Some x) v
 
-pub no_text : (most n : ℕ) (t : List ℕ) → most < 2 ^ 64 → number_up_to most t ≡ None → n ≤ most → t ≡ decimal n → ⊥
+pub no_text :
+    (most n : ℕ) (t : List ℕ) → most < 2 ^ 64 → number_up_to most t ≡ None
+    → n ≤ most → t ≡ decimal n → ⊥
 no_text most n t h none le e =
     let other : number_up_to most t ≡ Some n = ap (number_up_to most) e ∙ of_text most n le h in
     cc

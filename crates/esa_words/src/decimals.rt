@@ -6,7 +6,7 @@ ghost use Rattle.std.specs.Char.{is_ascii_digit};
 ghost use Rattle.std.specs.List.{list_all};
 ghost use Rattle.std.specs.Str.Parse.{digits_value};
 ghost use Rattle.arrayvec.specs.ArrayVec.{array_vec_len};
-ghost use Rattle.esa_model.specs.Numbers.{decimal as decimal_text, is_decimal as is_decimal_text, number_up_to};
+ghost use Rattle.run_model.specs.Numbers.{decimal as decimal_text, is_decimal as is_decimal_text, number_up_to};
 
 use arrayvec::ArrayVec;
 
@@ -38,7 +38,7 @@ fn has_only_digits(t: &[u8]) -> bool
 }
 
 /// Whether a text is a decimal, of any length.
-#[tactic(auto, unfolding(esa_model::specs::Numbers::is_decimal))]
+#[tactic(auto, unfolding(run_model::specs::Numbers::is_decimal))]
 pub fn is_decimal(t: &[u8]) -> bool
     ensures { result ≡ is_decimal_text t.now }
 {
@@ -57,7 +57,8 @@ fn clipped_value(digits: &[u8], most: u64) -> u128
     value
 }
 
-/// The number of a decimal, None exactly where the text is no decimal or its number is above `most`.
+/// The number of a decimal, None exactly where the text is no decimal or its number is above
+/// `most`.
 pub fn read_decimal(t: &[u8], most: u64) -> Option<u64>
     ensures value { result ≡ number_up_to most t.now }
     ensures some { IfSome result (λ n. (t.now ≡ decimal_text n) × (n ≤ most)) }

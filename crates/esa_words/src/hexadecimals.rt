@@ -2,7 +2,7 @@
 #![tactic(auto)]
 
 ghost use Rattle.std.specs.Prelude.{◌≡◌, ◌<◌, ◌/◌, ◌%◌};
-ghost use Rattle.esa_model.specs.Numbers.{hex_digit, hex_text};
+ghost use Rattle.run_model.specs.Numbers.{hex_digit, hex_text};
 
 use arrayvec::ArrayVec;
 
@@ -16,7 +16,7 @@ fn digit(n: u32, weight: u32) -> u8
 }
 
 /// A word in eight digits.
-#[tactic(auto, unfolding(esa_model::specs::Numbers::hex_text))]
+#[tactic(auto, unfolding(run_model::specs::Numbers::hex_text))]
 pub fn hex8(w: u32) -> ArrayVec<u8, 8>
     ensures { result.items ≡ hex_text 8 w }
 {
@@ -33,7 +33,7 @@ pub fn hex8(w: u32) -> ArrayVec<u8, 8>
 }
 
 /// The low 24 bits of a word in six digits.
-#[tactic(auto, unfolding(esa_model::specs::Numbers::hex_text))]
+#[tactic(auto, unfolding(run_model::specs::Numbers::hex_text))]
 pub fn hex6(w: u32) -> ArrayVec<u8, 6>
     ensures { result.items ≡ hex_text 6 w }
 {
@@ -48,7 +48,7 @@ pub fn hex6(w: u32) -> ArrayVec<u8, 6>
 }
 
 /// A byte in two digits.
-#[tactic(auto, unfolding(esa_model::specs::Numbers::hex_text))]
+#[tactic(auto, unfolding(run_model::specs::Numbers::hex_text))]
 pub fn hex2(b: u8) -> ArrayVec<u8, 2>
     ensures { result.items ≡ hex_text 2 b }
 {

@@ -5,8 +5,7 @@ mod decimals;
 mod hexadecimals;
 #[cfg(test)]
 mod tests;
-mod words;
 
 pub use decimals::{decimal, is_decimal, read_decimal};
+pub use esa_model::words::{bits, signed32, wrap32};
 pub use hexadecimals::{hex2, hex6, hex8};
-pub use words::{bits, signed32, wrap32};

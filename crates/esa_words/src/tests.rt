@@ -38,19 +38,19 @@ fn texts(rt: HostRuntime) {
 
 #[test]
 fn numbers(rt: HostRuntime) {
-    let rows: [(&[u8], Option<u64>); 9] = [
-        (b"0", Some(0)),
-        (b"999999", Some(999999)),
-        (b"1000000", None),
-        (b"00", None),
-        (b"01", None),
-        (b"+1", None),
-        (b"", None),
-        (b"1 ", None),
-        (b"100000000000000000000", None),
+    assert_eq!(rt; read_decimal(b"0", 999999), Some(0));
+    assert_eq!(rt; read_decimal(b"999999", 999999), Some(999999));
+    let none: [&[u8]; 7] = [
+        b"1000000",
+        b"00",
+        b"01",
+        b"+1",
+        b"",
+        b"1 ",
+        b"100000000000000000000",
     ];
-    for (text, number) in rows {
-        assert_eq!(rt; read_decimal(text, 999999), number);
+    for text in none {
+        assert_eq!(rt; read_decimal(text, 999999), None);
     }
     assert_eq!(rt;
         read_decimal(b"18446744073709551615", u64::MAX),

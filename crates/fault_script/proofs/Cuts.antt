@@ -4,7 +4,7 @@ use Rattle.std.specs.List.{slice_split, position_or_len, onto_first}
 use Rattle.std.proofs.lemmas.List.{take_all, drop-drop}
 use Rattle.std.proofs.lemmas.List.Splits.{slice_split_first, length-slice_split}
 use Rattle.std.proofs.lemmas.Bool.Decides.{nat_tests}
-use Rattle.esa_model.specs.Script.{is_blank, is_line_feed, fields, lines, without_last_empty}
+use Rattle.run_model.specs.Script.{is_blank, is_line_feed, fields, lines, without_last_empty}
 
 first_step : (b : Bool) (n i : ℕ) → cond (not b) (1 + n) 0 ≡ suc i → (b ≡ false) × (n ≡ i)
 first_step true n i e = absurd (omega arith)

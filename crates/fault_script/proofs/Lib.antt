@@ -1,5 +1,10 @@
+pub mod Buckets
 pub mod Counted
 pub mod Cuts
+pub mod Forms
+pub mod Gathering
 pub mod Parity
+pub mod Stable
+pub mod Sums
 pub mod Sweep
 pub mod Threes

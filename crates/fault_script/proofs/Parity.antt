@@ -5,12 +5,12 @@ use Rattle.std.specs.Prelude.{Some, None, ◌↔◌}
 use Rattle.std.proofs.lemmas.List.Sums.{sum_by-append}
 use Rattle.std.proofs.lemmas.List.Sorted.{sum_by-IsPermutation}
 use Rattle.std.proofs.lemmas.Bool.Decides.{nat_tests}
-use Rattle.esa_model.specs.declared.faults.Unit.{Unit}
-use Rattle.esa_model.specs.declared.faults.Unit.TheVariants.{A, B}
+use Rattle.run_model.specs.declared.faults.Unit.{Unit}
+use Rattle.run_model.specs.declared.faults.Unit.TheVariants.{A, B}
 use Rattle.fault_script.specs.declared.masks.Change.{Change}
-use Rattle.esa_model.specs.declared.faults.Strike.{Strike}
-use Rattle.esa_model.specs.declared.faults.Strike.TheVariants.{Packet, Fetch, Store, Word}
-use Rattle.esa_model.specs.Premise.{hits_packet, mask, GoodMasks}
+use Rattle.run_model.specs.declared.faults.Strike.{Strike}
+use Rattle.run_model.specs.declared.faults.Strike.TheVariants.{Packet, Fetch, Store, Word}
+use Rattle.run_model.specs.Premise.{hits_packet, mask, GoodMasks}
 use Rattle.fault_script.specs.Changes.{changes_of, by_then, changed, GoodChanges}
 
 -- a line that counts covers an attempt where one of its two changes is past

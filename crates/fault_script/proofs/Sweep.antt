@@ -4,10 +4,10 @@ use Rattle.std.specs.List.Sorted.{IsNonDecreasingBy}
 use Rattle.std.proofs.lemmas.List.Sums.{sum_by-cons, sum_by_more}
 use Rattle.std.proofs.lemmas.Bool.{cases_eq}
 use Rattle.std.proofs.lemmas.Bool.Decides.{nat_tests}
-use Rattle.esa_model.specs.declared.faults.Unit.{Unit}
-use Rattle.esa_model.specs.declared.faults.Unit.TheVariants.{A, B}
+use Rattle.run_model.specs.declared.faults.Unit.{Unit}
+use Rattle.run_model.specs.declared.faults.Unit.TheVariants.{A, B}
 use Rattle.fault_script.specs.declared.masks.Change.{Change}
-use Rattle.esa_model.specs.Premise.{same_unit}
+use Rattle.run_model.specs.Premise.{same_unit}
 use Rattle.fault_script.specs.Changes.{by_then, changed, odd, GoodChanges, on, at_bit, at_of, nothing, at_place, NoneSet, flipped}
 
 -- ---- counts of sorted changes

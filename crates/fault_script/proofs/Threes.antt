@@ -4,10 +4,10 @@ use Rattle.std.specs.List.{count_by}
 use Rattle.std.proofs.lemmas.List.Sums.{sum_by_more, sum_by-take-le}
 use Rattle.std.proofs.lemmas.Bool.{cases_eq}
 use Rattle.std.proofs.lemmas.Bool.Decides.{nat_tests}
-use Rattle.esa_model.specs.declared.faults.Unit.TheVariants.{A}
-use Rattle.esa_model.specs.declared.faults.Strike.{Strike}
-use Rattle.esa_model.specs.declared.faults.Strike.TheVariants.{Packet}
-use Rattle.esa_model.specs.Premise.{strikes_word}
+use Rattle.run_model.specs.declared.faults.Unit.TheVariants.{A}
+use Rattle.run_model.specs.declared.faults.Strike.{Strike}
+use Rattle.run_model.specs.declared.faults.Strike.TheVariants.{Packet}
+use Rattle.run_model.specs.Premise.{strikes_word}
 use Rattle.fault_script.specs.Places.{place}
 
 -- what stands at a place past the end

@@ -1,19 +1,20 @@
--- The attempts at which bits begin or cease to be flipped.
+-- The attempts at which bits begin or cease to be flipped. Source: choice of this project.
 use Rattle.std.specs.Prelude.{ℕ, ◌+◌, ◌%◌, ◌<◌, ◌≡◌, Bool, false, ◌&&◌, ◌==◌, nat_le, nat_lt, not, length, slice_set, if◌then◌else◌, slice_index_or, List, [], ◌∷◌, Some, None, count_by}
-use Rattle.esa_model.specs.Premise.{same_unit}
-use Rattle.esa_model.specs.declared.faults.Unit.{Unit}
-use Rattle.esa_model.specs.declared.faults.Unit.TheVariants.{A, B}
+use Rattle.run_model.specs.Premise.{same_unit}
+use Rattle.run_model.specs.declared.faults.Unit.{Unit}
+use Rattle.run_model.specs.declared.faults.Unit.TheVariants.{A, B}
 use Rattle.fault_script.specs.declared.masks.Change.{Change}
-use Rattle.esa_model.specs.declared.faults.Strike.{Strike}
-use Rattle.esa_model.specs.declared.faults.Strike.TheVariants.{Packet, Fetch, Store, Word}
+use Rattle.run_model.specs.declared.faults.Strike.{Strike}
+use Rattle.run_model.specs.declared.faults.Strike.TheVariants.{Packet, Fetch, Store, Word}
 
 abbrev pub change : ℕ → ℕ → Unit → ℕ → Change
 change core at unit bit = record { at = at; core = core; unit = unit; bit = bit }
 
--- a line hits_packet its bit from its first attempt on, and once more past its last one
+-- a line flips its bit from its first attempt on, and once more past its last one
 abbrev pub changes_of : Strike → List Change
 changes_of (Packet core first unit bit None) = change core.0 first unit bit ∷ []
-changes_of (Packet core first unit bit (Some count)) = change core.0 first unit bit ∷ change core.0 (first + count) unit bit ∷ []
+changes_of (Packet core first unit bit (Some count)) =
+    change core.0 first unit bit ∷ change core.0 (first + count) unit bit ∷ []
 changes_of (Fetch core first bit) = []
 changes_of (Store core first bit) = []
 changes_of (Word core first word bit) = []
@@ -62,4 +63,5 @@ NoneSet xs = (b : ℕ) → b < 4096 → slice_index_or xs b false ≡ false
 
 -- a set after a hit
 abbrev pub flipped : List Bool → Bool → ℕ → List Bool
-flipped xs hit i = if hit && nat_lt i (length xs) then slice_set xs i (not (slice_index_or xs i false)) else xs
+flipped xs hit i =
+    if hit && nat_lt i (length xs) then slice_set xs i (not (slice_index_or xs i false)) else xs

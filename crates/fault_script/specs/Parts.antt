@@ -1,4 +1,4 @@
--- What the parts of a line say of its fields.
+-- What the parts of a line say of its fields. Source: choice of this project.
 use Rattle.std.specs.Prelude.{ℕ, ◌≡◌, ◌<◌, ◌⊎◌, List, [], ◌∷◌, length}
 use Rattle.fault_script.specs.declared.fields.Parts.{Parts}
 use Rattle.fault_script.specs.declared.fields.Parts.TheVariants.{Four, Five, Six, Other}

@@ -1,7 +1,7 @@
--- One number for a core, a word of it and a block of attempts.
+-- One number for a core, a word of it and a block of attempts. Source: choice of this project.
 use Rattle.std.specs.Prelude.{ℕ, ◌+◌, ◌*◌, ◌<◌, ◌≡◌, ◌==◌}
-use Rattle.esa_model.specs.Premise.{strikes_word}
-use Rattle.esa_model.specs.declared.faults.Strike.{Strike}
+use Rattle.run_model.specs.Premise.{strikes_word}
+use Rattle.run_model.specs.declared.faults.Strike.{Strike}
 
 abbrev pub place : ℕ → ℕ → ℕ → ℕ
 place c w k = (k * 256 + w) * 256 + c
@@ -12,6 +12,6 @@ pub record IsPlaceOf (s : Strike) (p : ℕ) : Type 0 where
   pub word : ℕ
   pub block : ℕ
   pub core_small : core < 16
-  pub word_small : word < 36
+  pub word_small : word < 40
   pub is : p ≡ place core word block
-  pub same : (c w k : ℕ) → c < 16 → w < 36 → strikes_word c w k s ≡ (p == place c w k)
+  pub same : (c w k : ℕ) → c < 16 → w < 40 → strikes_word c w k s ≡ (p == place c w k)

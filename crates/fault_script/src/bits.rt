@@ -1,7 +1,8 @@
 // A set of bits that knows whether it is empty.
 #![tactic(auto)]
 
-ghost use Rattle.std.specs.Prelude.{◌≡◌, ℕ, ◌<◌, ◌↔◌, false, IsTrue, IfOk, length, slice_index_or, count_by, Bool};
+ghost use Rattle.std.specs.Prelude.{◌≡◌, ℕ, ◌<◌, ◌↔◌, false, IsTrue, IfOk, length, slice_index_or};
+ghost use Rattle.std.specs.Prelude.{count_by, Bool};
 
 use std::alloc::{AllocError, Global};
 
@@ -35,7 +36,8 @@ impl Bits {
     }
 
     pub fn is_empty(&self) -> bool
-        ensures { IsTrue result ↔ ((b : ℕ) → b < length self.now.odd.items → slice_index_or self.now.odd.items b false ≡ false) }
+        ensures { IsTrue result ↔ ((b : ℕ) → b < length self.now.odd.items
+            → slice_index_or self.now.odd.items b false ≡ false) }
     {
         self.ones == 0
     }

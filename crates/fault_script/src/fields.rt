@@ -3,7 +3,7 @@
 
 ghost use Rattle.std.specs.Prelude.{◌≡◌, ◌<◌, ◌≤◌, ◌∷◌, [], length, IfSome, MatchOption};
 ghost use Rattle.std.specs.List.{position_or_len};
-ghost use Rattle.esa_model.specs.Script.{is_blank, fields};
+ghost use Rattle.run_model.specs.Script.{is_blank, fields};
 ghost use Rattle.fault_script.specs.Parts.{AreParts};
 
 fn piece_len(text: &[u8]) -> usize
@@ -20,7 +20,8 @@ fn piece_len(text: &[u8]) -> usize
 
 // The first field, and what follows its blank.
 fn cut(text: &[u8]) -> (&[u8], Option<&[u8]>)
-    ensures parts { MatchOption result.1 (fields text.now ≡ result.0.now ∷ []) (λ r. fields text.now ≡ result.0.now ∷ fields r.now) }
+    ensures parts { MatchOption result.1 (fields text.now ≡ result.0.now ∷ [])
+        (λ r. fields text.now ≡ result.0.now ∷ fields r.now) }
     ensures more { IfSome result.1 (λ r. 0 < length (fields r.now)) }
 {
     let (field, tail) = text.split_at(piece_len(text));

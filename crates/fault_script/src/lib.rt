@@ -3,14 +3,17 @@
 
 mod bits;
 mod fields;
+mod gathered;
 mod lines;
 mod masks;
+mod order;
 mod parsing;
 #[cfg(test)]
 mod tests;
 mod verdict;
 mod words;
 
-pub use esa_model::faults::{ScriptRefusal, Strike, Unit};
+pub use order::is_brief_strike;
 pub use parsing::parse;
+pub use run_model::faults::{ScriptRefusal, Strike, Unit};
 pub use verdict::{Script, within};

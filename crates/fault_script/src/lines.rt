@@ -1,15 +1,18 @@
 // What a script's line says.
 #![tactic(auto)]
 
-ghost use Rattle.std.specs.Prelude.{◌≡◌, ◌≤◌, IfSome, IfOk};
-ghost use Rattle.esa_model.specs.Script.{is_letter, ranged, spot, word_spot, as_fetch, as_store, as_word, as_packet, unit, attempts, four_fields, five_fields, six_fields, by_fields, strike_of};
-ghost use Rattle.esa_model.specs.Script.{fields as fields_of};
+ghost use Rattle.std.specs.Prelude.{◌≡◌, ◌<◌, ◌≤◌, IfSome, IfOk};
+ghost use Rattle.run_model.specs.Checkpoint.{width};
+ghost use Rattle.run_model.specs.Script.{is_letter, last_position, ranged, spot, word_spot};
+ghost use Rattle.run_model.specs.Script.{as_fetch, as_store, as_word, as_packet, unit, attempts};
+ghost use Rattle.run_model.specs.Script.{four_fields, five_fields, six_fields, by_fields};
+ghost use Rattle.run_model.specs.Script.{fields as fields_of, strike_of, CountInRange, InRange};
+ghost use Rattle.fault_script.specs.Ranges.{SpotInRange, WordInRange};
 
 use crate::fields::{Parts, parted};
 use crate::{ScriptRefusal, Strike, Unit};
-use esa_model::faults::Spot;
-use esa_model::machine::CoreNo;
 use esa_words::{is_decimal, read_decimal};
+use run_model::faults::{CoreNo, Spot};
 
 // The numbers of a line, each None where it is out of its range.
 fn range(
@@ -19,10 +22,13 @@ fn range(
     word: Option<u64>,
     bit: Option<u64>,
 ) -> Result<Spot, ScriptRefusal>
+    requires attempts { IfSome attempt (λ n. n ≤ 999999) }
     requires cores { IfSome core (λ c. c ≤ 15) }
-    requires words { IfSome word (λ w. w ≤ 35) }
+    requires words { IfSome word (λ w. w ≤ 39) }
     requires bits { IfSome bit (λ b. b ≤ 4096) }
     ensures value { result ≡ ranged line attempt core word bit }
+    ensures spot { IfOk result SpotInRange }
+    ensures word { IfOk result (λ s. word ≡ Some s.word) }
     ensures bit { IfOk result (λ s. bit ≡ Some s.bit) }
 {
     let attempt = match attempt {
@@ -49,7 +55,7 @@ fn range(
     })
 }
 
-#[tactic(auto, unfolding(esa_model::specs::Script::spot))]
+#[tactic(auto, unfolding(run_model::specs::Script::spot))]
 fn spot_of(
     line: u32,
     most: u64,
@@ -59,7 +65,8 @@ fn spot_of(
 ) -> Result<Spot, ScriptRefusal>
     requires { most ≤ 4096 }
     ensures value { result ≡ spot line most core.now attempt.now bit.now }
-    ensures small { IfOk result (λ s. s.bit ≤ most) }
+    ensures spot { IfOk result SpotInRange }
+    ensures bit { IfOk result (λ s. s.bit ≤ most) }
 {
     if !is_decimal(core) || !is_decimal(bit) {
         return Err(ScriptRefusal::BadLine(line));
@@ -70,7 +77,20 @@ fn spot_of(
     range(line, attempt, core, Some(0), bit)
 }
 
-#[tactic(auto, unfolding(esa_model::specs::Script::word_spot))]
+// The last position of a checkpoint word: those of the clocks have 64 bits, the others 32.
+#[tactic(auto, unfolding(run_model::specs::Checkpoint::width))]
+fn last_position_of(word: Option<u64>) -> u64
+    ensures value { result ≡ last_position word }
+    ensures bit { IfSome word (λ w. result < width w) }
+    ensures small { result ≤ 71 }
+{
+    match word {
+        Some(word) => if word < 36 { 38 } else { 71 },
+        None => 0,
+    }
+}
+
+#[tactic(auto, unfolding(run_model::specs::Script::word_spot))]
 fn word_spot_of(
     line: u32,
     core: &[u8],
@@ -79,15 +99,17 @@ fn word_spot_of(
     bit: &[u8],
 ) -> Result<Spot, ScriptRefusal>
     ensures value { result ≡ word_spot line core.now attempt.now word.now bit.now }
-    ensures small { IfOk result (λ s. s.bit ≤ 38) }
+    ensures spot { IfOk result SpotInRange }
+    ensures word { IfOk result WordInRange }
+    ensures small { IfOk result (λ s. s.bit ≤ 71) }
 {
     if !is_decimal(core) || !is_decimal(word) || !is_decimal(bit) {
         return Err(ScriptRefusal::BadLine(line));
     }
     let attempt = read_decimal(attempt, 999_999);
     let core = read_decimal(core, 15);
-    let word = read_decimal(word, 35);
-    let bit = read_decimal(bit, 38);
+    let word = read_decimal(word, 39);
+    let bit = read_decimal(bit, last_position_of(word));
     range(line, attempt, core, word, bit)
 }
 
@@ -98,8 +120,10 @@ fn is_one(byte: u8, field: &[u8]) -> bool
 }
 
 fn fetch_of(spot: Result<Spot, ScriptRefusal>) -> Result<Strike, ScriptRefusal>
-    requires { IfOk spot (λ s. s.bit ≤ 64) }
-    ensures { result ≡ as_fetch spot }
+    requires spot { IfOk spot SpotInRange }
+    requires bit { IfOk spot (λ s. s.bit ≤ 64) }
+    ensures value { result ≡ as_fetch spot }
+    ensures range { IfOk result InRange }
 {
     match spot {
         Ok(s) => Ok(Strike::Fetch(s.core, s.attempt, s.bit as u8)),
@@ -108,7 +132,10 @@ fn fetch_of(spot: Result<Spot, ScriptRefusal>) -> Result<Strike, ScriptRefusal>
 }
 
 fn store_of(spot: Result<Spot, ScriptRefusal>) -> Result<Strike, ScriptRefusal>
-    ensures { result ≡ as_store spot }
+    requires spot { IfOk spot SpotInRange }
+    requires bit { IfOk spot (λ s. s.bit ≤ 4096) }
+    ensures value { result ≡ as_store spot }
+    ensures range { IfOk result InRange }
 {
     match spot {
         Ok(s) => Ok(Strike::Store(s.core, s.attempt, s.bit)),
@@ -117,8 +144,11 @@ fn store_of(spot: Result<Spot, ScriptRefusal>) -> Result<Strike, ScriptRefusal>
 }
 
 fn word_of(spot: Result<Spot, ScriptRefusal>) -> Result<Strike, ScriptRefusal>
-    requires { IfOk spot (λ s. s.bit ≤ 38) }
-    ensures { result ≡ as_word spot }
+    requires spot { IfOk spot SpotInRange }
+    requires word { IfOk spot WordInRange }
+    requires small { IfOk spot (λ s. s.bit ≤ 71) }
+    ensures value { result ≡ as_word spot }
+    ensures range { IfOk result InRange }
 {
     match spot {
         Ok(s) => Ok(Strike::Word(s.core, s.attempt, s.word, s.bit as u8)),
@@ -126,7 +156,7 @@ fn word_of(spot: Result<Spot, ScriptRefusal>) -> Result<Strike, ScriptRefusal>
     }
 }
 
-#[tactic(auto, unfolding(esa_model::specs::Script::unit))]
+#[tactic(auto, unfolding(run_model::specs::Script::unit))]
 fn unit_of(field: &[u8]) -> Option<Unit>
     ensures { result ≡ unit field.now }
 {
@@ -139,9 +169,10 @@ fn unit_of(field: &[u8]) -> Option<Unit>
     None
 }
 
-#[tactic(auto, unfolding(esa_model::specs::Script::attempts))]
+#[tactic(auto, unfolding(run_model::specs::Script::attempts))]
 fn attempts_of(field: &[u8]) -> Option<Option<u64>>
-    ensures { result ≡ attempts field.now }
+    ensures value { result ≡ attempts field.now }
+    ensures range { IfSome result CountInRange }
 {
     if is_one(b'*', field) {
         return Some(None);
@@ -163,7 +194,11 @@ fn packet_of(
     attempts: Option<Option<u64>>,
     spot: Result<Spot, ScriptRefusal>,
 ) -> Result<Strike, ScriptRefusal>
-    ensures { result ≡ as_packet line unit attempts spot }
+    requires attempts { IfSome attempts CountInRange }
+    requires spot { IfOk spot SpotInRange }
+    requires bit { IfOk spot (λ s. s.bit ≤ 4095) }
+    ensures value { result ≡ as_packet line unit attempts spot }
+    ensures range { IfOk result InRange }
 {
     let unit = match unit {
         Some(unit) => unit,
@@ -179,9 +214,10 @@ fn packet_of(
     }
 }
 
-#[tactic(auto, unfolding(esa_model::specs::Script::four_fields))]
+#[tactic(auto, unfolding(run_model::specs::Script::four_fields))]
 fn read_four(line: u32, k: &[u8], c: &[u8], n: &[u8], b: &[u8]) -> Result<Strike, ScriptRefusal>
-    ensures { result ≡ four_fields line k.now c.now n.now b.now }
+    ensures value { result ≡ four_fields line k.now c.now n.now b.now }
+    ensures range { IfOk result InRange }
 {
     if is_one(b'F', k) {
         return fetch_of(spot_of(line, 64, c, n, b));
@@ -192,7 +228,7 @@ fn read_four(line: u32, k: &[u8], c: &[u8], n: &[u8], b: &[u8]) -> Result<Strike
     Err(ScriptRefusal::BadLine(line))
 }
 
-#[tactic(auto, unfolding(esa_model::specs::Script::five_fields))]
+#[tactic(auto, unfolding(run_model::specs::Script::five_fields))]
 fn read_five(
     line: u32,
     k: &[u8],
@@ -201,7 +237,8 @@ fn read_five(
     w: &[u8],
     b: &[u8],
 ) -> Result<Strike, ScriptRefusal>
-    ensures { result ≡ five_fields line k.now c.now n.now w.now b.now }
+    ensures value { result ≡ five_fields line k.now c.now n.now w.now b.now }
+    ensures range { IfOk result InRange }
 {
     if is_one(b'W', k) {
         return word_of(word_spot_of(line, c, n, w, b));
@@ -209,7 +246,7 @@ fn read_five(
     Err(ScriptRefusal::BadLine(line))
 }
 
-#[tactic(auto, unfolding(esa_model::specs::Script::six_fields))]
+#[tactic(auto, unfolding(run_model::specs::Script::six_fields))]
 fn read_six(
     line: u32,
     k: &[u8],
@@ -219,7 +256,8 @@ fn read_six(
     b: &[u8],
     m: &[u8],
 ) -> Result<Strike, ScriptRefusal>
-    ensures { result ≡ six_fields line k.now c.now n.now u.now b.now m.now }
+    ensures value { result ≡ six_fields line k.now c.now n.now u.now b.now m.now }
+    ensures range { IfOk result InRange }
 {
     if is_one(b'U', k) {
         return packet_of(
@@ -233,7 +271,8 @@ fn read_six(
 }
 
 fn read_parts(line: u32, text: &[u8]) -> Result<Strike, ScriptRefusal>
-    ensures { result ≡ by_fields line (fields_of text.now) }
+    ensures value { result ≡ by_fields line (fields_of text.now) }
+    ensures range { IfOk result InRange }
 {
     match parted(text) {
         Parts::Four(k, c, n, b) => read_four(line, k, c, n, b),
@@ -244,9 +283,10 @@ fn read_parts(line: u32, text: &[u8]) -> Result<Strike, ScriptRefusal>
 }
 
 /// What the line of this number says by itself.
-#[tactic(auto, unfolding(esa_model::specs::Script::strike_of))]
+#[tactic(auto, unfolding(run_model::specs::Script::strike_of))]
 pub fn read_line(line: u32, text: &[u8]) -> Result<Strike, ScriptRefusal>
-    ensures { result ≡ strike_of line text.now }
+    ensures value { result ≡ strike_of line text.now }
+    ensures range { IfOk result InRange }
 {
     read_parts(line, text)
 }

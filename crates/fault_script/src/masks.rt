@@ -1,13 +1,14 @@
 // The masks of the two packets: one sweep for each core over the sorted changes.
 #![tactic(auto)]
 
-ghost use Rattle.std.specs.Prelude.{◌≡◌, ℕ, ◌+◌, ◌<◌, ◌↔◌, ◌++◌, ◌==◌, ◌&&◌, IsTrue, IfOk, length, IsPermutation, flat_map};
+ghost use Rattle.std.specs.Prelude.{◌≡◌, ℕ, ◌+◌, ◌<◌, ◌↔◌, ◌++◌, ◌==◌, ◌&&◌, IsTrue, IfOk, length};
+ghost use Rattle.std.specs.Prelude.{IsPermutation, flat_map};
 ghost use Rattle.std.specs.List.Sorted.{IsNonDecreasingBy};
-ghost use Rattle.esa_model.specs.Premise.{GoodMasks, same_unit};
+ghost use Rattle.run_model.specs.Premise.{GoodMasks, same_unit};
 ghost use Rattle.fault_script.specs.Changes.{changes_of, GoodChanges, at_of, Ends, NoneSet};
 
 use crate::bits::Bits;
-use esa_model::faults::{Strike, Unit};
+use run_model::faults::{Strike, Unit};
 use std::alloc::{AllocError, Global};
 
 // A bit of a packet begins or ceases to be flipped.
@@ -101,7 +102,8 @@ fn may_stand(changes: &[Change], i: usize, struck: &Bits, unlike: &Bits) -> bool
     requires place { i < length changes.now }
     requires struck { length struck.now.odd.items ≡ 4096 }
     requires unlike { length unlike.now.odd.items ≡ 4096 }
-    ensures { IsTrue result ↔ (Ends changes.now i → NoneSet unlike.now.odd.items → NoneSet struck.now.odd.items) }
+    ensures { IsTrue result ↔ (Ends changes.now i
+        → NoneSet unlike.now.odd.items → NoneSet struck.now.odd.items) }
 {
     let ends = ends_attempt(changes, i);
     let alike = unlike.is_empty();

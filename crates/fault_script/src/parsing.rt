@@ -1,13 +1,15 @@
 // A whole script.
 #![tactic(auto)]
 
-ghost use Rattle.std.specs.Prelude.{◌≡◌, ◌<◌, ◌≤◌, ◌^◌, ◌∷◌, [], length, IfSome, IfNone, MatchResult, Ok};
-ghost use Rattle.std.specs.List.{position_or_len, list_any};
-ghost use Rattle.esa_model.specs.Script.{is_line_feed, lines, same_latch, script, MayRefuse};
+ghost use Rattle.std.specs.Prelude.{◌≡◌, ◌<◌, ◌≤◌, ◌^◌, ◌∷◌, [], length, IfSome, IfNone};
+ghost use Rattle.std.specs.Prelude.{MatchResult, Ok};
+ghost use Rattle.std.specs.List.{position_or_len};
+ghost use Rattle.run_model.specs.Script.{is_line_feed, lines, script, MayRefuse};
 
+use crate::gathered::Gathered;
 use crate::lines::read_line;
 use crate::verdict::script_of;
-use crate::{Script, ScriptRefusal, Strike};
+use crate::{Script, ScriptRefusal};
 use std::alloc::Global;
 
 fn line_len(text: &[u8]) -> usize
@@ -24,7 +26,8 @@ fn line_len(text: &[u8]) -> usize
 
 // The next line and what follows it.
 fn next_line(text: &[u8]) -> Option<(&[u8], &[u8])>
-    ensures some { IfSome result (λ p. (lines text.now ≡ p.0.now ∷ lines p.1.now) × (length p.1.now < length text.now)) }
+    ensures some { IfSome result (λ p. (lines text.now ≡ p.0.now ∷ lines p.1.now)
+        × (length p.1.now < length text.now)) }
     ensures none { IfNone result (lines text.now ≡ []) }
 {
     if text.len() == 0 {
@@ -38,28 +41,13 @@ fn next_line(text: &[u8]) -> Option<(&[u8], &[u8])>
     Some((line, after))
 }
 
-fn is_same_latch(s: Strike, t: Strike) -> bool
-    ensures { result ≡ same_latch s t }
-{
-    match (s, t) {
-        (Strike::Fetch(c, n, _), Strike::Fetch(d, m, _)) => d.0 == c.0 && m == n,
-        (Strike::Store(c, n, _), Strike::Store(d, m, _)) => d.0 == c.0 && m == n,
-        _ => false,
-    }
-}
-
-fn has_same_latch(strikes: &[Strike], s: Strike) -> bool
-    ensures { result ≡ list_any (same_latch s) strikes.now }
-{
-    strikes.iter().any(|t| is_same_latch(s, *t))
-}
-
 /// The strikes of a script, or its first refusal.
 pub fn parse(alloc: Global, text: &[u8]) -> Result<Script, ScriptRefusal>
     requires { length text.now < 2 ^ 32 }
-    ensures { MatchResult result (λ s. script text.now ≡ Ok s) (λ e. MayRefuse (script text.now) e) }
+    ensures { MatchResult result (λ s. script text.now ≡ Ok s)
+        (λ e. MayRefuse (script text.now) e) }
 {
-    let mut strikes = Vec::new(alloc);
+    let mut gathered = Gathered::new(alloc);
     let mut rest = text;
     let mut number: u32 = 0;
     while let Some((line, after)) = next_line(rest) {
@@ -75,14 +63,15 @@ pub fn parse(alloc: Global, text: &[u8]) -> Result<Script, ScriptRefusal>
             Ok(strike) => strike,
             Err(refusal) => return Err(refusal),
         };
-        if has_same_latch(&strikes, strike) {
+        if gathered.has_latch_of(strike) {
             return Err(ScriptRefusal::TwoAtOneAttempt(number));
         }
-        if strikes.push(strike).is_err() {
-            return Err(ScriptRefusal::NoMemory);
-        }
+        gathered = match gathered.with(strike) {
+            Ok(more) => more,
+            Err(_) => return Err(ScriptRefusal::NoMemory),
+        };
     }
-    match script_of(alloc, strikes) {
+    match script_of(alloc, gathered) {
         Ok(script) => Ok(script),
         Err(_) => Err(ScriptRefusal::NoMemory),
     }

@@ -1,11 +1,15 @@
+ghost use Rattle.std.specs.Prelude.{◌<◌, ◌^◌, length};
+
 use crate::{ScriptRefusal, Strike, Unit, parse, within};
-use esa_model::machine::CoreNo;
+use esa_words::decimal;
+use run_model::faults::CoreNo;
+use std::alloc::Global;
 use std::test::Fail;
 
 // Every form, empty lines, and a last line without line feed.
 #[test]
-fn lines_are_strikes(rt: HostRuntime) {
-    let text = b"U 0 2 A 2000 *\n\n\nU 15 999999 B 4095 1000000\nF 0 1 64\nS 0 1 4096\nW 0 0 35 38";
+fn every_form_of_line(rt: HostRuntime) {
+    let text = b"U 0 2 A 2000 *\n\n\nU 15 999999 B 4095 1000000\nF 0 1 64\nS 0 1 4096\nW 0 0 39 71";
     match parse(rt.alloc(), text) {
         Ok(script) => {
             let wanted = [
@@ -13,7 +17,7 @@ fn lines_are_strikes(rt: HostRuntime) {
                 Strike::Packet(CoreNo(15), 999999, Unit::B, 4095, Some(1000000)),
                 Strike::Fetch(CoreNo(0), 1, 64),
                 Strike::Store(CoreNo(0), 1, 4096),
-                Strike::Word(CoreNo(0), 0, 35, 38),
+                Strike::Word(CoreNo(0), 0, 39, 71),
             ];
             assert_eq!(rt; script.strikes(), wanted.as_slice());
         }
@@ -21,50 +25,83 @@ fn lines_are_strikes(rt: HostRuntime) {
     }
 }
 
-// Each refusal, also where a later line or a later rule would refuse as well.
-#[test]
-fn refusals(rt: HostRuntime) {
-    let rows: [(&[u8], ScriptRefusal); 24] = [
-        (b"F 0 1 0\nF 0 1 0", ScriptRefusal::TwoAtOneAttempt(2)),
-        (
-            b"S 0 1 0\nF 0 1 0\n\nS 0 1 9\nx",
-            ScriptRefusal::TwoAtOneAttempt(4),
-        ),
-        (b"F 0 1 0\nF 0 1 65", ScriptRefusal::BadBit(2)),
-        (b"W 0 1 36 0", ScriptRefusal::BadWord(1)),
-        (b"W 0 1 36 39", ScriptRefusal::BadWord(1)),
-        (b"W 16 1 36 39", ScriptRefusal::BadCore(1)),
-        (b"W 16 1000000 36 39", ScriptRefusal::BadLine(1)),
-        (b"W 0 1 35 39", ScriptRefusal::BadBit(1)),
-        (b"U 0 2 A 4096 1", ScriptRefusal::BadBit(1)),
-        (b"U 16 2 A 0 0", ScriptRefusal::BadLine(1)),
-        (b"U 0 2 A 0 1000001", ScriptRefusal::BadLine(1)),
-        (b"U 0 2 C 0 1", ScriptRefusal::BadLine(1)),
-        (b"S 0 1 4097\nx", ScriptRefusal::BadBit(1)),
-        (b"x\nS 0 1 4097", ScriptRefusal::BadLine(1)),
-        (b"F +0 1 0", ScriptRefusal::BadLine(1)),
-        (b"F 0 01 0", ScriptRefusal::BadLine(1)),
-        (b"F 0  1 0", ScriptRefusal::BadLine(1)),
-        (b"F 0 1 0 ", ScriptRefusal::BadLine(1)),
-        (b" F 0 1 0", ScriptRefusal::BadLine(1)),
-        (b"F 0 1 0\r\n", ScriptRefusal::BadLine(1)),
-        (b"\n \n", ScriptRefusal::BadLine(2)),
-        (b"F 18446744073709551616 1 0", ScriptRefusal::BadCore(1)),
-        (b"F 0 18446744073709551616 0", ScriptRefusal::BadLine(1)),
-        (
-            b"F 0 1 9999999999999999999999999999999999999999",
-            ScriptRefusal::BadBit(1),
-        ),
-    ];
-    for (text, wanted) in rows {
-        match parse(rt.alloc(), text) {
-            Ok(_) => assert!(rt; false),
-            Err(refusal) => assert_eq!(rt; refusal, wanted),
-        }
+// Whether the script is refused so.
+fn refuses(alloc: Global, text: &[u8], wanted: ScriptRefusal) -> bool
+    requires { length text.now < 2 ^ 32 }
+{
+    match parse(alloc, text) {
+        Ok(_) => false,
+        Err(refusal) => refusal == wanted,
     }
 }
 
-// Ten thousand lines that all end with a line feed are accepted, one more is not, though it is empty.
+#[test]
+fn lines_without_a_form(rt: HostRuntime) {
+    let texts: [&[u8]; 12] = [
+        b"W 16 1000000 40 72",
+        b"U 16 2 A 0 0",
+        b"U 0 2 A 0 1000001",
+        b"U 0 2 C 0 1",
+        b"x\nS 0 1 4097",
+        b"F +0 1 0",
+        b"F 0 01 0",
+        b"F 0  1 0",
+        b"F 0 1 0 ",
+        b" F 0 1 0",
+        b"F 0 1 0\r\n",
+        b"F 0 18446744073709551616 0",
+    ];
+    for text in texts {
+        assert!(rt; refuses(rt.alloc(), text, ScriptRefusal::BadLine(1)));
+    }
+}
+
+#[test]
+fn bits_past_their_range(rt: HostRuntime) {
+    let texts: [&[u8]; 6] = [
+        b"W 0 1 36 72",
+        b"W 0 1 35 39",
+        b"U 0 2 A 4096 1",
+        b"S 0 1 4097\nx",
+        b"F 0 1 65",
+        b"F 0 1 9999999999999999999999999999999999999999",
+    ];
+    for text in texts {
+        assert!(rt; refuses(rt.alloc(), text, ScriptRefusal::BadBit(1)));
+    }
+}
+
+// Each other refusal, also where a later line or a later rule would refuse as well.
+#[test]
+fn first_refusal(rt: HostRuntime) {
+    assert!(rt; refuses(rt.alloc(), b"W 0 1 40 0", ScriptRefusal::BadWord(1)));
+    assert!(rt; refuses(rt.alloc(), b"W 16 1 40 72", ScriptRefusal::BadCore(1)));
+    assert!(rt;
+        refuses(
+            rt.alloc(),
+            b"F 18446744073709551616 1 0",
+            ScriptRefusal::BadCore(1)
+        )
+    );
+    assert!(rt; refuses(rt.alloc(), b"\n \n", ScriptRefusal::BadLine(2)));
+    assert!(rt; refuses(rt.alloc(), b"F 0 1 0\nF 0 1 65", ScriptRefusal::BadBit(2)));
+    assert!(rt;
+        refuses(
+            rt.alloc(),
+            b"F 0 1 0\nF 0 1 9",
+            ScriptRefusal::TwoAtOneAttempt(2)
+        )
+    );
+    assert!(rt;
+        refuses(
+            rt.alloc(),
+            b"S 0 1 0\nF 0 1 0\n\nS 0 1 9\nx",
+            ScriptRefusal::TwoAtOneAttempt(4)
+        )
+    );
+}
+
+// Ten thousand lines that all end with a line feed are accepted, one more is not, though empty.
 #[test]
 fn most_lines(rt: HostRuntime) -> Result<(), Fail> {
     let mut text = vec![in rt.alloc(); 10u8; 10000]?;
@@ -75,40 +112,99 @@ fn most_lines(rt: HostRuntime) -> Result<(), Fail> {
     }
     text.push(10)?;
     assert!(rt; text.len() == 10001);
-    match parse(rt.alloc(), &text) {
-        Ok(_) => assert!(rt; false),
-        Err(refusal) => assert_eq!(rt; refusal, ScriptRefusal::TooMany(10001)),
-    }
+    assert!(rt; refuses(rt.alloc(), &text, ScriptRefusal::TooMany(10001)));
     Ok(())
 }
 
-#[test]
-fn premise(rt: HostRuntime) {
-    let rows: [(&[u8], bool); 14] = [
-        (b"", true),
-        (b"U 0 2 A 2000 *", true),
-        // alike in both units, at one attempt
-        (b"U 0 2 A 2000 1\nU 0 2 B 2000 1", false),
-        (b"U 0 2 A 2000 *\nU 0 1 B 2000 2", false),
-        (b"U 15 999999 A 4095 1\nU 15 0 B 4095 1000000", false),
-        // at other attempts, of another bit or core
-        (b"U 0 2 A 2000 1\nU 0 3 B 2000 1", true),
-        (b"U 0 2 A 2000 1\nU 0 2 B 2001 1", true),
-        (b"U 0 2 A 2000 1\nU 1 2 B 2000 1", true),
-        // struck twice is not flipped
-        (b"U 0 2 A 7 1\nU 0 2 A 7 1", true),
-        // alike only once a line has ended
-        (b"U 0 2 A 7 *\nU 0 2 A 8 3\nU 0 2 B 7 *", false),
-        // three strikes of a word in sixteen attempts
-        (b"W 0 3 5 10\nW 0 15 5 11\nW 0 16 5 12", true),
-        (b"W 0 3 5 10\nW 0 15 5 11\nW 0 12 5 12", false),
-        (b"W 0 3 5 10\nW 0 15 6 11\nW 0 12 5 12", true),
-        (b"W 0 3 5 10\nW 1 15 5 11\nW 0 12 5 12", true),
-    ];
-    for (text, wanted) in rows {
-        match parse(rt.alloc(), text) {
-            Ok(script) => assert_eq!(rt; within(&script), wanted),
-            Err(_) => assert!(rt; false),
-        }
+// Whether the script is accepted, and within the premise or not as wanted.
+fn stands(alloc: Global, text: &[u8], wanted: bool) -> bool
+    requires { length text.now < 2 ^ 32 }
+{
+    match parse(alloc, text) {
+        Ok(script) => within(&script) == wanted,
+        Err(_) => false,
     }
+}
+
+// A third strike of a word is beyond the premise in the 16 attempts of the first two alone.
+#[test]
+fn three_strikes_of_a_word(rt: HostRuntime) {
+    assert!(rt; stands(rt.alloc(), b"W 0 3 5 10\nW 0 15 5 11\nW 0 16 5 12", true));
+    assert!(rt; stands(rt.alloc(), b"W 0 3 5 10\nW 0 15 5 11\nW 0 12 5 12", false));
+    assert!(rt; stands(rt.alloc(), b"W 0 3 5 10\nW 0 15 6 11\nW 0 12 5 12", true));
+    assert!(rt; stands(rt.alloc(), b"W 0 3 5 10\nW 1 15 5 11\nW 0 12 5 12", true));
+}
+
+// Both units struck alike at one attempt; the last only once a line has ended.
+#[test]
+fn units_struck_alike(rt: HostRuntime) {
+    let texts: [&[u8]; 4] = [
+        b"U 0 2 A 2000 1\nU 0 2 B 2000 1",
+        b"U 0 2 A 2000 *\nU 0 1 B 2000 2",
+        b"U 15 999999 A 4095 1\nU 15 0 B 4095 1000000",
+        b"U 0 2 A 7 *\nU 0 2 A 8 3\nU 0 2 B 7 *",
+    ];
+    for text in texts {
+        assert!(rt; stands(rt.alloc(), text, false));
+    }
+}
+
+// At other attempts, of another bit or core; a bit struck twice is not flipped.
+#[test]
+fn units_struck_apart(rt: HostRuntime) {
+    let texts: [&[u8]; 6] = [
+        b"",
+        b"U 0 2 A 2000 *",
+        b"U 0 2 A 2000 1\nU 0 3 B 2000 1",
+        b"U 0 2 A 2000 1\nU 0 2 B 2001 1",
+        b"U 0 2 A 2000 1\nU 1 2 B 2000 1",
+        b"U 0 2 A 7 1\nU 0 2 A 7 1",
+    ];
+    for text in texts {
+        assert!(rt; stands(rt.alloc(), text, true));
+    }
+}
+
+// The lines of one core and attempt are found, in their order, and those that last kept apart.
+#[test]
+fn found_by_attempt(rt: HostRuntime) {
+    let text = b"U 0 3 A 7 1\nU 0 2 B 8 *\nW 1 3 5 10\nF 0 3 0\nU 0 1 A 9 2\nS 0 2 9\nW 0 3 5 11";
+    match parse(rt.alloc(), text) {
+        Ok(script) => {
+            let third = [
+                Strike::Packet(CoreNo(0), 3, Unit::A, 7, Some(1)),
+                Strike::Fetch(CoreNo(0), 3, 0),
+                Strike::Word(CoreNo(0), 3, 5, 11),
+            ];
+            let lasting = [
+                Strike::Packet(CoreNo(0), 2, Unit::B, 8, None),
+                Strike::Packet(CoreNo(0), 1, Unit::A, 9, Some(2)),
+            ];
+            assert_eq!(rt; script.at(CoreNo(0), 3), third.as_slice());
+            assert_eq!(rt; script.at(CoreNo(1), 3).len(), 1);
+            assert_eq!(rt; script.at(CoreNo(1), 2).len(), 0);
+            assert_eq!(rt; script.lasting(), lasting.as_slice());
+        }
+        Err(_) => assert!(rt; false),
+    }
+}
+
+// The lines `F 0 n 0` for 9,999 attempts, and one for the last of them again.
+#[test]
+fn many_latches(rt: HostRuntime) -> Result<(), Fail> {
+    let mut text = Vec::new(rt.alloc());
+    for n in 0..9_999_u64 {
+        text.extend_from_slice(b"F 0 ")?;
+        text.extend_from_slice(decimal(n).as_slice())?;
+        text.extend_from_slice(b" 0\n")?;
+    }
+    assert!(rt; text.len() < 200_000);
+    match parse(rt.alloc(), &text) {
+        Ok(script) => assert_eq!(rt; script.at(CoreNo(0), 9_998).len(), 1),
+        Err(_) => assert!(rt; false),
+    }
+    text.extend_from_slice(b"F 0 9998 64\n")?;
+    assert!(rt; text.len() < 200_000);
+    assert!(rt; refuses(rt.alloc(), &text, ScriptRefusal::TwoAtOneAttempt(10_000)));
+    Ok(())
 }

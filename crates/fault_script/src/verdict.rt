@@ -1,10 +1,16 @@
-// A script with its verdict, which is found where there is memory to be had.
+// A script with its verdict and its index, which are found where there is memory to be had.
 #![tactic(auto)]
 
-ghost use Rattle.std.specs.Prelude.{◌≡◌, ◌↔◌, IsTrue, IfOk};
-ghost use Rattle.esa_model.specs.Premise.{Within};
+ghost use Rattle.std.specs.Prelude.{◌≡◌, ◌↔◌, IsTrue, IfOk, flat_map};
+ghost use Rattle.run_model.specs.Premise.{Within};
+ghost use Rattle.run_model.specs.Script.{AllInRange, InForm};
+ghost use Rattle.fault_script.specs.Index.{if_lasting};
+ghost use Rattle.fault_script.specs.Totals.{IsPart};
 
+use crate::gathered::Gathered;
+use crate::order::{bucket, index_of, lasting_of};
 use crate::{Strike, masks, words};
+use run_model::faults::CoreNo;
 use std::alloc::{AllocError, Global};
 use std::marker::Model;
 
@@ -12,19 +18,25 @@ use std::marker::Model;
 #[derive(Drop)]
 pub struct Script {
     strikes: Vec<Strike>,
+    sorted: Vec<Strike>,
+    lasting: Vec<Strike>,
     is_within: bool,
 }
 
 impl Model for Script {
     ghost use Rattle.std.specs.Prelude.{List, IsTrue, ◌↔◌};
-    ghost use Rattle.esa_model.specs.Premise.{Within};
-    ghost use Rattle.esa_model.specs.declared.faults.Strike.{Strike as StrikeOfLine};
+    ghost use Rattle.run_model.specs.Premise.{Within};
+    ghost use Rattle.run_model.specs.declared.faults.Strike.{Strike as StrikeOfLine};
+    ghost use Rattle.fault_script.specs.Index.{IsIndexed};
 
     ghost Value = { List StrikeOfLine };
 
     ghost view = { λ s. s.strikes.items };
 
-    ghost invariant = { λ s. IsTrue s.is_within ↔ Within s.strikes.items };
+    ghost invariant = { λ s. record {
+      verdict : IsTrue s.is_within ↔ Within s.strikes.items;
+      indexed : IsIndexed s.strikes.items s.sorted.items s.lasting.items;
+    } };
 }
 
 // Whether strikes are within the premise.
@@ -37,24 +49,50 @@ fn is_within(alloc: Global, strikes: &[Strike]) -> Result<bool, AllocError>
 }
 
 /// A script of these strikes.
-pub fn script_of(alloc: Global, strikes: Vec<Strike>) -> Result<Script, AllocError>
-    ensures { IfOk result (λ s. s ≡ strikes.items) }
+pub fn script_of(alloc: Global, gathered: Gathered) -> Result<Script, AllocError>
+    ensures { IfOk result (λ s. s ≡ gathered) }
 {
+    let strikes = gathered.strikes();
     let is_within = is_within(alloc, &strikes)?;
-    Ok(Script { strikes, is_within })
+    let sorted = index_of(alloc, &strikes)?;
+    let lasting = lasting_of(alloc, &strikes)?;
+    Ok(Script {
+        strikes,
+        sorted,
+        lasting,
+        is_within,
+    })
 }
 
 impl Script {
-    /// The strikes, one for each line that is not empty.
+    /// The strikes, one for each line that is not empty. Each is in form.
     pub fn strikes(&self) -> &[Strike]
-        ensures { result.now ≡ self.now }
+        ensures same { result.now ≡ self.now }
+        ensures form { InForm self.now }
     {
         &self.strikes
     }
+
+    /// The strikes of a core whose first attempt is this one. They flip at it what all strikes
+    /// flip, but that in packets the lasting ones come beside them.
+    pub fn at(&self, core: CoreNo, attempt: u64) -> &[Strike]
+        ensures ranges { AllInRange result.now }
+        ensures part { IsPart self.now result.now core.0 attempt }
+    {
+        bucket(&self.sorted, core, attempt)
+    }
+
+    /// The strikes of packets that last more attempts than one.
+    pub fn lasting(&self) -> &[Strike]
+        ensures same { result.now ≡ flat_map if_lasting self.now }
+        ensures ranges { AllInRange result.now }
+    {
+        &self.lasting
+    }
 }
 
-/// Whether a script is within the premise: alike strikes of both units of a core at one attempt are
-/// none, and no checkpoint word is struck more than twice in a block of 16 attempts.
+/// Whether a script is within the premise: alike strikes of both units of a core at one attempt
+/// are none, and no checkpoint word is struck more than twice in a block of 16 attempts.
 pub fn within(script: &Script) -> bool
     ensures { IsTrue result ↔ Within script.now }
 {

@@ -3,8 +3,8 @@ ghost use Rattle.std.specs.Prelude.{◌≡◌, ◌≤◌, ◌<◌, ◌+◌, ◌^
 ghost use Rattle.esa_model.specs.Apply.{apply, console_out};
 ghost use Rattle.esa_model.specs.Machine.{Machine as Model};
 ghost use Rattle.esa_model.specs.Packet.{read};
-ghost use Rattle.esa_model.specs.Trace.{changed_bytes, stretches};
-ghost use Rattle.g5_machine.specs.Turns.{StandsFor, Made};
+ghost use Rattle.esa_model.specs.Changes.{changed_bytes, stretches};
+ghost use Rattle.g5_machine.specs.Turns.{StandsFor, Made, commit_more};
 
 use crate::machine::Machine;
 use crate::turns::{Outcome, Turn};
@@ -31,7 +31,8 @@ impl Machine {
     pub(crate) fn carry_out(&mut self, cpu: CpuNo, packet: &Packet) -> Turn
         requires known { cpu.0 < length self.old.registers.items }
         requires room { self.old.counts.turns < 2 ^ 48 }
-        ensures applied { (model : Model) → (made : Made) → StandsFor self.old model made → StandsFor self.new (apply model cpu.0 packet.now) (record { turns = made.turns + 1; commits = made.commits + 1 }) }
+        ensures applied { (model : Model) → (made : Made) → StandsFor self.old model made
+            → StandsFor self.new (apply model cpu.0 packet.now) (commit_more made) }
         ensures outcome { result.outcome ≡ Outcome.Committed }
         ensures psw { result.psw ≡ (read packet.now).registers.psw }
         ensures changed { result.written.changed.items ≡ changed_bytes self.old.storage self.new.storage }

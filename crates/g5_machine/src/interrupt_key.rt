@@ -2,8 +2,11 @@
 ghost use Rattle.std.specs.Prelude.{◌≡◌, ◌≤◌, ◌<◌, ◌+◌, ◌^◌, length};
 ghost use Rattle.esa_model.specs.Bus.{keyed};
 ghost use Rattle.esa_model.specs.Machine.{Machine as Model};
-ghost use Rattle.g5_machine.specs.Turns.{StandsFor, Made};
+ghost use Rattle.esa_model.specs.Run.{step};
+ghost use Rattle.esa_model.specs.declared.machine.Event.TheVariants.{Key};
+ghost use Rattle.g5_machine.specs.Turns.{StandsFor, Made, turn_more};
 
+use crate::clock::advance_clock;
 use crate::machine::Machine;
 use esa_model::machine::CpuNo;
 use result_packet::Side;
@@ -22,9 +25,11 @@ impl Machine {
         requires room { self.old.counts.turns < 2 ^ 48 }
         ensures cpus { length self.new.registers.items ≡ length self.old.registers.items }
         ensures rise { self.new.counts.turns ≤ self.old.counts.turns + 1 }
-        ensures stands { (model : Model) → (made : Made) → StandsFor self.old model made → StandsFor self.new (record model { bus = keyed cpu.0 model.bus }) (record { turns = made.turns + 1; commits = made.commits }) }
+        ensures stands { (model : Model) → (made : Made) → StandsFor self.old model made
+            → StandsFor self.new (step model (Key cpu)) (turn_more made) }
     {
         press_key(&mut self.side, cpu);
+        advance_clock(&mut self.side);
         self.counts.add_turn();
     }
 }

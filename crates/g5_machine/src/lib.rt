@@ -2,16 +2,16 @@
 #![tactic(auto)]
 
 mod carrying;
+mod clock;
 mod counts;
 mod interrupt_key;
 mod machine;
-mod signal_units;
 mod starting;
 mod state;
 mod turning;
 mod turns;
 
-pub use esa_model::decks::Loaded;
+pub use deck_model::decks::Loaded;
 pub use machine::Machine;
 pub use turns::{Outcome, Turn};
 

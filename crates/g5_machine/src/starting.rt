@@ -6,7 +6,7 @@ ghost use Rattle.g5_machine.specs.Turns.{StandsFor};
 use crate::counts::Counts;
 use crate::machine::Machine;
 use abs_storage::AbsStorage;
-use esa_model::decks::Loaded;
+use deck_model::decks::Loaded;
 use esa_model::machine::{Psw, Registers};
 use esa_model::memory::NoMemory;
 use result_packet::{Console, Side};
@@ -20,6 +20,7 @@ fn registers_with(psw: Psw) -> Registers
     ensures control { result.control ≡ 0x000000E0 ∷ (replicate 13 0 ++ (0xC2000000 ∷ 0 ∷ [])) }
     ensures psw { result.psw ≡ psw }
     ensures prefix { result.prefix ≡ 0 }
+    ensures clocks { result.clocks ≡ replicate 4 0 }
 {
     let mut control = [0; 16];
     control[0] = 0x0000_00E0;
@@ -29,6 +30,7 @@ fn registers_with(psw: Psw) -> Registers
         control,
         psw,
         prefix: 0,
+        clocks: [0; 4],
     }
 }
 
@@ -91,6 +93,7 @@ impl Machine {
                 keys,
                 bus,
                 console: Console::new(console),
+                clock: 0,
             },
             counts: Counts::zeros(),
         })

@@ -6,7 +6,8 @@ ghost use Rattle.g5_machine.specs.Counts.{IsCounted};
 ghost use Rattle.g5_machine.specs.Turns.{StandsFor, Made};
 
 use crate::machine::Machine;
-use esa_model::machine::{CoreNo, CpuNo, CpuState, Registers};
+use esa_model::machine::{CpuNo, CpuState, Registers};
+use run_model::faults::CoreNo;
 
 impl Machine {
     /// The registers of a CPU, `None` exactly where the machine has no CPU of that number.

@@ -3,7 +3,8 @@ mod moves;
 
 use crate::{Loaded, Machine, Outcome, Turn};
 use abs_storage::AbsStorage;
-use esa_model::machine::{CoreNo, CpuNo, CpuState, Psw};
+use esa_model::machine::{CpuNo, CpuState, Psw};
+use run_model::faults::CoreNo;
 use std::alloc::Global;
 use std::test::Fail;
 
@@ -300,21 +301,25 @@ fn two_cpus(rt: HostRuntime) -> Result<(), Fail> {
     Ok(())
 }
 
-/// SIGP, and EX of one, change nothing, however often they are tried.
+/// CPU 0 starts CPU 1, whose PSW is zero: its first event is an early exception.
 #[test]
 fn signal_processor(rt: HostRuntime) -> Result<(), Fail> {
-    for instruction in [[0xAE, 0x13, 0x00, 0x04], [0x44, 0x00, 0x01, 0x20]] {
-        let mut storage = blank(rt.alloc())?;
-        put(&mut storage, ENTRY, &instruction);
-        put(&mut storage, 0x120, &[0xAE, 0x13, 0x00, 0x04]);
-        let mut machine = started(rt.alloc(), storage)?;
-        for _k in 0..2 {
-            let tried = turn(&mut machine, FIRST)?;
-            assert_eq!(rt; tried.outcome, Outcome::NotYet);
-            assert_eq!(rt; tried.psw, ZERO);
-            assert!(rt; changes(&tried, &[]));
-            assert_eq!(rt; machine.turns(), 0);
-        }
-    }
+    let mut storage = blank(rt.alloc())?;
+    // LHI 3,1; SIGP 1,3,4 (start)
+    put(
+        &mut storage,
+        ENTRY,
+        &[0xA7, 0x38, 0x00, 0x01, 0xAE, 0x13, 0x00, 0x04],
+    );
+    let entry = Loaded { address: ENTRY };
+    let mut machine = Machine::new(rt.alloc(), storage, entry, 2, Vec::new(rt.alloc()))?;
+    commits(&mut machine, 1)?;
+    assert_eq!(rt; machine.state(SECOND), CpuState::Stopped);
+    commits(&mut machine, 1)?;
+    assert_eq!(rt; machine.state(SECOND), CpuState::Operating);
+    let made = turn(&mut machine, SECOND)?;
+    assert_eq!(rt; made.outcome, Outcome::Committed);
+    assert_eq!(rt; made.psw, ZERO);
+    assert!(rt; changes(&made, &[(0x8F, 6)]));
     Ok(())
 }

@@ -1,14 +1,12 @@
 // A turn.
 ghost use Rattle.std.specs.Prelude.{◌≡◌, ◌≤◌, ◌<◌, ◌+◌, ◌^◌, [], true, false, length};
-ghost use Rattle.esa_model.specs.Bus.{signals_of};
-ghost use Rattle.esa_model.specs.Event.{due as due_of};
 ghost use Rattle.esa_model.specs.Machine.{Machine as Model, idle, is_idle as is_idle_event};
-ghost use Rattle.esa_model.specs.Trace.{stretches};
-ghost use Rattle.g5_machine.specs.Built.{is_built};
+ghost use Rattle.esa_model.specs.Changes.{stretches};
 ghost use Rattle.g5_machine.specs.Turns.{StandsFor, Made, Gives, CommitGives, TellsNothing};
+ghost use Rattle.twin_units.specs.Units.{due_beside};
 
+use crate::clock::advance_clock;
 use crate::machine::Machine;
-use crate::signal_units::is_signal_due;
 use crate::turns::{Outcome, Turn};
 use arrayvec::ArrayVec;
 use esa_model::machine::{CpuNo, Due, Psw, Registers};
@@ -43,9 +41,9 @@ fn is_idle(event: Due) -> bool
 
 /// The event that is due at a CPU.
 fn event_due(r: &Registers, cpu: CpuNo, side: &Side) -> Due
-    ensures { result ≡ due_of r.now (signals_of side.now.bus cpu.0) }
+    ensures { result ≡ due_beside r.now cpu.0 side.now }
 {
-    due(r, &side.bus, cpu)
+    due(r, side.clock, &side.bus, cpu)
 }
 
 impl Machine {
@@ -53,19 +51,17 @@ impl Machine {
     pub fn turn(&mut self, cpu: CpuNo) -> Turn
         requires known { cpu.0 < length self.old.registers.items }
         requires room { self.old.counts.turns < 2 ^ 48 }
-        ensures turn { (model : Model) → (made : Made) → StandsFor self.old model made → Gives model made cpu.0 self.new result result.outcome }
+        ensures turn { (model : Model) → (made : Made) → StandsFor self.old model made
+            → Gives model made cpu.0 self.new result result.outcome }
         ensures cpus { length self.new.registers.items ≡ length self.old.registers.items }
         ensures rise { self.new.counts.turns ≤ self.old.counts.turns + 1 }
         ensures stretches { length (stretches result.written.changed.items) ≤ 135 }
     {
         let r = self.registers_at(cpu);
-        let event = event_due(&r, cpu, &self.side);
-        if is_idle(event) {
+        if is_idle(event_due(&r, cpu, &self.side)) {
             self.counts.add_turn();
+            advance_clock(&mut self.side);
             return without_commit(Outcome::Idle);
-        }
-        if is_signal_due(event, &r, &self.side, &mut self.storage) {
-            return without_commit(Outcome::NotYet);
         }
         self.commit(cpu)
     }
@@ -74,7 +70,8 @@ impl Machine {
     fn commit(&mut self, cpu: CpuNo) -> Turn
         requires known { cpu.0 < length self.old.registers.items }
         requires room { self.old.counts.turns < 2 ^ 48 }
-        ensures commit { (model : Model) → (made : Made) → StandsFor self.old model made → idle model cpu.0 ≡ false → is_built model cpu.0 ≡ true → CommitGives model made cpu.0 self.new result }
+        ensures commit { (model : Model) → (made : Made) → StandsFor self.old model made
+            → idle model cpu.0 ≡ false → CommitGives model made cpu.0 self.new result }
         ensures outcome { result.outcome ≡ Outcome.Committed }
         ensures cpus { length self.new.registers.items ≡ length self.old.registers.items }
         ensures rise { self.new.counts.turns ≤ self.old.counts.turns + 1 }
@@ -83,6 +80,8 @@ impl Machine {
         let r = self.registers_at(cpu);
         let latch = latch(&r, cpu, &mut self.storage, &self.side);
         let packet = compute(&latch, &r, cpu, &mut self.storage, &self.side);
-        self.carry_out(cpu, &packet)
+        let turn = self.carry_out(cpu, &packet);
+        advance_clock(&mut self.side);
+        turn
     }
 }

@@ -2,5 +2,7 @@
 #![tactic(auto)]
 
 mod reading;
+#[cfg(test)]
+mod tests;
 
 pub use reading::{ReadRefusal, read_some, read_whole};

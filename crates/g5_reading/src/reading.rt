@@ -1,5 +1,5 @@
 // An input file, read whole up to a limit.
-ghost use Rattle.std.specs.Prelude.{◌≡◌, ◌<◌, ◌≤◌, ◌+◌, ◌^◌, ◌++◌, ◌⊎◌, [], length, IfOk, OnErr, IsTrue, IsErrOf, MatchResult, Some, false, vec_len};
+ghost use Rattle.std.specs.Prelude.{◌≡◌, ◌<◌, ◌≤◌, ◌+◌, ◌^◌, ◌++◌, ◌⊎◌, [], length, IfOk, OnErr, IsTrue, IsErrOf, MatchResult, Some, IfSome, false, vec_len};
 ghost use Rattle.g5_outside.specs.Calls.{file_named};
 ghost use Rattle.g5_outside.specs.Causes.{Rose};
 ghost use Rattle.g5_reading.specs.Inputs.{OnlyReads, IsRefused, WasFound};
@@ -66,6 +66,8 @@ pub fn read_whole<F: Shelf>(
     ensures only { OnlyReads (F.seen shelf.old) (F.seen shelf.new) }
     ensures content { IsTrue (F.seen shelf.old).told → MatchResult result (λ bytes. file_named name.now (F.seen shelf.old).files ≡ Some bytes.items) (IsRefused name.now limit (F.seen shelf.old)) }
     ensures bound { IfOk result (λ bytes. vec_len bytes ≤ limit) }
+    ensures taken { IsErrOf result ReadRefusal.TooLarge → IsTrue (F.seen shelf.old).told
+        → IfSome (file_named name.now (F.seen shelf.old).files) (λ bytes. length bytes ≤ length (F.seen shelf.new).left + (limit + 1)) }
     ensures found { WasFound (F.seen shelf.new).found result }
     ensures fault { IsErrOf result ReadRefusal.Fault → Rose (F.seen shelf.old).read_faults (F.seen shelf.new).read_faults }
 {
@@ -84,6 +86,8 @@ fn read_found<F: Shelf>(alloc: Global, shelf: &mut F, limit: usize) -> Result<Ve
     ensures all { IsTrue (F.seen shelf.old).told → IfOk result (λ bytes. bytes.items ≡ (F.seen shelf.old).left) }
     ensures bound { IfOk result (λ bytes. vec_len bytes ≤ limit) }
     ensures too_large { IsErrOf result ReadRefusal.TooLarge → IsTrue (F.seen shelf.old).told → limit < length (F.seen shelf.old).left }
+    ensures taken { IsErrOf result ReadRefusal.TooLarge → IsTrue (F.seen shelf.old).told
+        → length (F.seen shelf.old).left ≤ length (F.seen shelf.new).left + (limit + 1) }
     ensures no_file { IsErrOf result ReadRefusal.NoFile → ⊥ }
     ensures still_found { IsTrue (F.seen shelf.new).found }
     ensures fault { IsErrOf result ReadRefusal.Fault → Rose (F.seen shelf.old).read_faults (F.seen shelf.new).read_faults }

@@ -1,19 +1,15 @@
 -- What follows from how the program ends.
-use Rattle.std.proofs.Common.{◌≡◌, ◌⊎◌, ℕ, zero, suc, ◌≤◌, ◌<◌, Bool, true, false, List, length, refl, sym, ◌∙◌, ap, subst, arith, Option, Some, None, Ok, Err, IsTrue, inl, inr}
+use Rattle.std.proofs.Common.{◌≡◌, ◌⊎◌, ℕ, ◌≤◌, ◌<◌, List, length, refl, sym, ◌∙◌, ap, subst, arith, Option, Some, None, Ok, Err, IsTrue, inl, inr}
 use Rattle.g5_outside.specs.Views.{ShelfView, SinkView}
 use Rattle.g5_outside.specs.Calls.{file_named}
 use Rattle.g5_reading.specs.Inputs.{IsTooLarge}
-use Rattle.esa_model.specs.Image.{image}
-use Rattle.esa_model.specs.Machine.{Machine as Model, start}
-use Rattle.esa_model.specs.Texts.{turned, after_turns}
-use Rattle.g5_machine.specs.Built.{is_built}
-use Rattle.g5_run.specs.RunTexts.{are_built}
+use Rattle.deck_model.specs.Image.{image}
 use Rattle.g5_run.specs.Words.{Names, input_name}
 use Rattle.g5_run.specs.Inputs.{InputBytes, AreRead, IsIn, IsUpTo, deck_limit, console_limit, schedule_limit}
 use Rattle.g5_run.specs.Asked.{asked}
 use Rattle.g5_run.specs.DeckRefusals.{storage_size}
-use Rattle.g5_run.specs.Readiness.{IsRun, HasUnbuiltInput}
-use Rattle.g5_run.specs.Ends.{Ends, JobEnds, EndsBefore, Untouched}
+use Rattle.g5_run.specs.Readiness.{HasUnbuiltInput}
+use Rattle.g5_run.specs.Ends.{Ends, JobEnds, Untouched}
 use Rattle.g5_run.specs.Complete.{ComesBeforeOutput, IsAccepted, NothingFailed}
 use Rattle.g5_run.specs.declared.inputs.Input.{Input}
 use Rattle.g5_run.specs.declared.inputs.Input.TheVariants.{Deck, Console, Schedule, Script}
@@ -29,7 +25,7 @@ job_untouched names a b o p e f WriteFault h k = absurd k
 job_untouched names a b o p e f (DeckRefused refusal) h k = h.0.untouched
 job_untouched names a b o p e f (TooLarge input) h k = h.0.untouched
 job_untouched names a b o p e f NoMemory h k = h.0.untouched
-job_untouched names a b o p e f NotYet h k = absurd k
+job_untouched names a b o p e f NotYet h k = h.0.untouched
 
 -- before an output is begun nothing is touched
 pub ends_untouched : (job : Option Names) (a b : ShelfView) (o p e f : SinkView) (status : Status) → Ends job a b o p e f status → ComesBeforeOutput status → Untouched a b o p
@@ -78,39 +74,7 @@ same_inputs names s x y t h k =
     ∙ ap (λ c. input_bytes y.deck y.console c x.script) schedule
     ∙ ap (λ c. input_bytes y.deck y.console y.schedule c) script
 
--- ---- all turns that are built are made
-
-pub built_head : (n : ℕ) (m : Model) (b : Bool) → is_built m 0 ≡ b → are_built (suc n) m ≡ true → (is_built m 0 ≡ true) × (are_built n (turned m 0) ≡ true)
-built_head n m true e h = (e, rw e at h)
-built_head n m false e h = let no : false ≡ true = rw e at h in absurd cc
-
-pub built_at : (n k : ℕ) (m : Model) → are_built n m ≡ true → k < n → is_built (after_turns k m) 0 ≡ true
-built_at zero k m h lt = absurd (omega arith)
-built_at (suc n) zero m h lt = (built_head n m (is_built m 0) refl h).0
-built_at (suc n) (suc k) m h lt = built_at n k (turned m 0) (built_head n m (is_built m 0) refl h).1 (omega arith)
-
--- two runs of one told shelf are one
-pub same_turns : (names : Names) (s : ShelfView) (n k : ℕ) (x y : Model) → IsTrue s.told → IsRun names s n x → IsRun names s k y → n ≡ k
-same_turns names s n k x y t h g =
-    let inputs = same_inputs names s h.inputs g.inputs t h.read g.read in
-    let both : Some n ≡ Some k = sym h.asks ∙ ap asked inputs ∙ g.asks in
-    cc
-
-pub same_start : (names : Names) (s : ShelfView) (n k : ℕ) (x y : Model) → IsTrue s.told → IsRun names s n x → IsRun names s k y → x ≡ y
-same_start names s n k x y t h g =
-    let inputs = same_inputs names s h.inputs g.inputs t h.read g.read in
-    let both : Ok h.deck ≡ Ok g.deck = sym h.deck_is ∙ ap (λ i. image storage_size i.deck) inputs ∙ g.deck_is in
-    let deck : h.deck ≡ g.deck = cc in
-    h.starts ∙ ap (λ d. start 1 d.bytes d.entry h.inputs.console) deck ∙ ap (λ i. start 1 g.deck.bytes g.deck.entry i.console) inputs ∙ sym g.starts
-
-pub not_before : (names : Names) (turns : ℕ) (a b : ShelfView) (o p : SinkView) → IsAccepted names a turns → EndsBefore names a b o p → ⊥
-not_before names turns a b o p ok h =
-    let n : turns ≡ h.turns = same_turns names a turns h.turns ok.m h.m ok.told ok.run h.run in
-    let m : ok.m ≡ h.m = same_start names a turns h.turns ok.m h.m ok.told ok.run h.run in
-    let built : is_built (after_turns h.made ok.m) 0 ≡ true = built_at turns h.made ok.m ok.built (omega (arith, h.fewer)) in
-    let clash : true ≡ false = sym built ∙ ap (λ k. is_built (after_turns h.made k) 0) m ∙ h.unbuilt in
-    absurd cc
-
+-- inputs of which a run is asked ask for one
 pub not_unbuilt : (names : Names) (turns : ℕ) (a b : ShelfView) → IsAccepted names a turns → HasUnbuiltInput names a b → ⊥
 not_unbuilt names turns a b ok h =
     let inputs = same_inputs names a ok.run.inputs h.inputs ok.told ok.run.read h.read in
@@ -135,7 +99,7 @@ job_complete names turns a b o p e f (TooLarge Console) h ok nf =
 job_complete names turns a b o p e f (TooLarge Schedule) h ok nf = absurd h.0.because
 job_complete names turns a b o p e f (TooLarge Script) h ok nf = absurd h.0.because
 job_complete names turns a b o p e f NoMemory h ok nf = inr refl
-job_complete names turns a b o p e f NotYet h ok nf = absurd (elim h.0 [ inl before ↦ not_unbuilt names turns a b ok before.because | inr at_turn ↦ not_before names turns a b o p ok at_turn ])
+job_complete names turns a b o p e f NotYet h ok nf = absurd (not_unbuilt names turns a b ok h.0.because)
 
 pub ends_complete : (job : Option Names) (names : Names) (turns : ℕ) (a b : ShelfView) (o p e f : SinkView) (status : Status) → Ends job a b o p e f status → job ≡ Some names → IsAccepted names a turns → NothingFailed a b o p → (status ≡ Done) ⊎ (status ≡ NoMemory)
 ends_complete job names turns a b o p e f status h is ok nf = job_complete names turns a b o p e f status (subst (λ j. Ends j a b o p e f status) is h) ok nf

@@ -1,15 +1,15 @@
 -- What the two files hold, by their names.
-use Rattle.std.proofs.Common.{◌≡◌, ◌≢◌, ℕ, Bool, true, false, List, [], ◌∷◌, ◌++◌, refl, sym, ◌∙◌, ap, IsTrue}
+use Rattle.std.proofs.Common.{◌≡◌, ◌≢◌, inl, inr, subst, ℕ, Bool, true, false, List, [], ◌∷◌, ◌++◌, refl, sym, ◌∙◌, ap, IsTrue}
 use Rattle.std.specs.Str.{bytes_eq}
 use Rattle.std.proofs.lemmas.Slice.Eq.{bytes_eq-Decides}
-use Rattle.g5_outside.specs.Views.{ShelfView, SinkView}
+use Rattle.g5_outside.specs.Views.{ShelfView, SinkView, Gave}
 use Rattle.g5_writing.specs.Outputs.{Grew}
-use Rattle.g5_writing.specs.Starts.{text_named}
+use Rattle.g5_writing.specs.Starts.{text_named, OnlyNames}
 use Rattle.g5_writing.specs.declared.outputs.OutputFiles.{OutputFiles}
-use Rattle.esa_model.specs.declared.outputs.Place.TheVariants.{Log, Trace}
-use Rattle.esa_model.specs.Pieces.{Piece, text}
+use Rattle.run_model.specs.declared.outputs.Place.TheVariants.{Log, Trace}
+use Rattle.run_model.specs.Pieces.{Piece, text}
 use Rattle.g5_run.specs.Words.{Names}
-use Rattle.g5_run.specs.Ends.{Holds}
+use Rattle.g5_run.specs.Ends.{Holds, HasOutputs}
 
 pub not_true : (b : Bool) → (b ≡ true → ⊥) → b ≡ false
 not_true true h = absurd (h refl)
@@ -43,3 +43,25 @@ holds_of names files pieces s t o p numbers log_name trace_name differ log_empty
       ∙ ap (λ z. z ++ text Trace pieces) (sym (named_newer s files.trace.0 files.log.0 names.trace numbers (trace_name told)) ∙ trace_empty told);
   out = g.out;
 }
+
+-- the two files that were started are there still, under their names
+pub outputs_of : (names : Names) (files : OutputFiles) (pieces : List Piece) (s t : ShelfView) (o p : SinkView)
+    → s.numbers ≡ files.trace.0 ∷ files.log.0 ∷ []
+    → (IsTrue s.told → s.name_of files.log.0 ≡ names.log) → (IsTrue s.told → s.name_of files.trace.0 ≡ names.trace)
+    → Grew files pieces s t o p → HasOutputs names t
+outputs_of names files pieces s t o p numbers log_name trace_name g = record {
+  log = files.log.0;
+  trace = files.trace.0;
+  numbers = g.numbers ∙ numbers;
+  log_name = λ now. g.names (sym g.told ∙ now) files.log.0 ∙ log_name (sym g.told ∙ now);
+  trace_name = λ now. g.names (sym g.told ∙ now) files.trace.0 ∙ trace_name (sym g.told ∙ now);
+}
+
+-- writing creates no file
+pub still_named : (names : Names) (files : OutputFiles) (pieces : List Piece) (s t : ShelfView) (o p : SinkView)
+    → (IsTrue s.told → OnlyNames names.log names.trace s) → Grew files pieces s t o p → IsTrue t.told → OnlyNames names.log names.trace t
+still_named names files pieces s t o p named g now = λ n gave.
+    elim (named (sym g.told ∙ now) n (subst (λ (ns : List ℕ). Gave ns n) g.numbers gave)) [
+      | inl log ↦ inl (g.names (sym g.told ∙ now) n ∙ log)
+      | inr trace ↦ inr (g.names (sym g.told ∙ now) n ∙ trace)
+    ]

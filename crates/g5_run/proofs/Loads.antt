@@ -2,8 +2,8 @@
 use Rattle.std.proofs.Common.{◌≡◌, ◌≢◌, ℕ, List, refl, sym, ◌∙◌, ap, length, replicate, Result, Err}
 use Rattle.std.proofs.lemmas.List.{length-replicate}
 use Rattle.deck_loader.specs.Listed.{Refuses}
-use Rattle.esa_model.specs.declared.decks.DeckRefusal.{DeckRefusal}
-use Rattle.esa_model.specs.declared.decks.DeckRefusal.TheVariants.{NotCards, BadFirstByte, UnknownCard, BadCount, Unsupported, NoEnd, DuplicateId, DuplicateName, UnknownId, TextOutside, RldOutside, EntryOutside, Unresolved, NoRoom, NoMemory}
+use Rattle.deck_model.specs.declared.decks.DeckRefusal.{DeckRefusal}
+use Rattle.deck_model.specs.declared.decks.DeckRefusal.TheVariants.{NotCards, BadFirstByte, UnknownCard, BadCount, Unsupported, NoEnd, DuplicateId, DuplicateName, UnknownId, TextOutside, RldOutside, EntryOutside, Unresolved, NoRoom, NoMemory}
 
 pub zero_all : (s : List ℕ) (n : ℕ) → s ≡ replicate n 0 → s ≡ replicate (length s) 0
 zero_all s n e = e ∙ ap (λ k. replicate k 0) (sym (ap length e ∙ length-replicate n 0))

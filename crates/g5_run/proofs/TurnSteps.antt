@@ -1,39 +1,66 @@
 -- The loop over turns.
-use Rattle.std.proofs.Common.{◌≡◌, ℕ, zero, suc, ◌+◌, ◌-◌, ◌≤◌, ◌<◌, Bool, true, false, List, [], ◌++◌, refl, sym, ◌∙◌, ap, subst, arith, length, Ok, Err, if◌then◌else◌}
+use Rattle.std.proofs.Common.{◌≡◌, ℕ, zero, suc, ◌+◌, ◌-◌, ◌≤◌, ◌<◌, List, [], ◌++◌, refl, sym, ◌∙◌, ap, subst, arith, length, Ok, Err}
+use Rattle.std.specs.Prelude.{Some, replicate}
 use Rattle.g5_outside.specs.Views.{ShelfView, SinkView}
 use Rattle.g5_writing.specs.Outputs.{Puts}
 use Rattle.g5_writing.specs.declared.outputs.OutputFiles.{OutputFiles}
 use Rattle.g5_writing.proofs.Progress.{Left, left_all, left_less, left_cut, left_none}
-use Rattle.esa_model.specs.Pieces.{Piece}
+use Rattle.run_model.specs.Pieces.{Piece}
+use Rattle.esa_model.specs.declared.machine.Event.{Event}
+use Rattle.esa_model.specs.declared.machine.Event.TheVariants.{Commit, Idle, Stop, Key}
 use Rattle.esa_model.specs.Machine.{Machine as Model}
-use Rattle.esa_model.specs.Texts.{turned, counted, turns_pieces, after_turns, commits_after}
-use Rattle.g5_machine.specs.Built.{is_built}
+use Rattle.run_model.specs.declared.outputs.Counts.{Counts}
+use Rattle.run_model.specs.Counts.{commits_by, counts, count_turn, count_turns}
+use Rattle.run_model.specs.PlainRuns.{after_turns, event_at, told_at, turned}
+use Rattle.run_model.specs.Runs.{tells_by}
+use Rattle.run_model.specs.Texts.{turn_pieces, turns_pieces}
 use Rattle.g5_machine.specs.Turns.{StandsFor}
 use Rattle.g5_machine.specs.declared.machine.Machine.{Machine}
-use Rattle.g5_run.specs.RunTexts.{built_pieces, built_turns}
-use Rattle.g5_run.specs.Making.{IsFresh, none_made, MakesTurns}
+use Rattle.g5_run.specs.RunTexts.{faultless, run_tells}
+use Rattle.g5_run.specs.Making.{IsFresh, none_made, MakesTurns, StandsAfter}
 
-pub after_next : (i : ℕ) (m : Model) → after_turns (suc i) m ≡ turned (after_turns i m) 0
+abbrev pub after : ℕ → Model → Model
+after i m = after_turns m (replicate i 0)
+
+pub after_next : (i : ℕ) (m : Model) → after (suc i) m ≡ turned (after i m) 0
 after_next zero m = refl
 after_next (suc i) m = after_next i (turned m 0)
 
-pub commits_next : (i k : ℕ) (m : Model) → commits_after (suc i) k m ≡ counted (commits_after i k m) (after_turns i m) 0
-commits_next zero k m = refl
-commits_next (suc i) k m = commits_next i (counted k m 0) (turned m 0)
+-- ---- what one turn more adds
 
--- the turns that are left are the next and those behind it
-pub turns_split : (r k : ℕ) (m : Model) (b : Bool) → is_built m 0 ≡ b → turns_pieces (built_turns (suc r) m) k m ≡ built_pieces k m ++ (if b then turns_pieces (built_turns r (turned m 0)) (counted k m 0) (turned m 0) else [])
-turns_split r k m true e = rw e refl
-turns_split r k m false e = rw e refl
+by_event : (m : Model) (e : Event) → (tells_by m [] (Some e)).event ≡ Some e
+by_event m (Commit i) = refl
+by_event m (Idle i) = refl
+by_event m (Stop i) = refl
+by_event m (Key i) = refl
 
--- so many turns are made and written, all of them built, so many of them were commits, and these are left
+count_by_event : (i k : ℕ) (m : Model) (e : Event)
+    → count_turn (faultless i k) (tells_by m [] (Some e)) ≡ faultless (i + 1) (commits_by (Some e) k)
+count_by_event i k m (Commit c) = refl
+count_by_event i k m (Idle c) = refl
+count_by_event i k m (Stop c) = refl
+count_by_event i k m (Key c) = refl
+
+told_event : (m : Model) → (told_at m 0).event ≡ Some (event_at m 0)
+unfolding told_at
+told_event m = by_event m (event_at m 0)
+
+pub turn_split : (r k : ℕ) (m : Model) → turns_pieces k (run_tells (suc r) m)
+    ≡ turn_pieces k (told_at m 0) ++ turns_pieces (commits_by (Some (event_at m 0)) k) (run_tells r (turned m 0))
+turn_split r k m = ap (λ e. turn_pieces k (told_at m 0) ++ turns_pieces (commits_by e k) (run_tells r (turned m 0))) (told_event m)
+
+count_one : (i k : ℕ) (m : Model) → count_turn (faultless i k) (told_at m 0) ≡ faultless (i + 1) (commits_by (Some (event_at m 0)) k)
+unfolding told_at
+count_one i k m = count_by_event i k m (event_at m 0)
+
+-- ---- so many turns are made and written, so many of them were commits, and these are left
+
 pub record TurnsSoFar (files : OutputFiles) (count i commits : ℕ) (m : Model) (now : Machine) (a b : ShelfView) (o p : SinkView) : Type 0 where
   pub rest : ℕ
   pub rest_is : i + rest ≡ count
-  pub stands : StandsFor now (after_turns i m) (record { turns = i; commits = commits })
-  pub counts : commits ≡ commits_after i 0 m
-  pub built : built_turns count m ≡ i + built_turns rest (after_turns i m)
-  pub left : Left files (turns_pieces (built_turns count m) 0 m) (turns_pieces (built_turns rest (after_turns i m)) commits (after_turns i m)) a b o p
+  pub stands : StandsFor now (after i m) (record { turns = i; commits = commits })
+  pub counted : counts (run_tells count m) ≡ count_turns (faultless i commits) (run_tells rest (after i m))
+  pub left : Left files (turns_pieces 0 (run_tells count m)) (turns_pieces commits (run_tells rest (after i m))) a b o p
 
 -- the loop's invariant
 pub record Turning (files : OutputFiles) (count i commits : ℕ) (start now : Machine) (a b : ShelfView) (o p : SinkView) : Type 0 where
@@ -43,7 +70,8 @@ pub record Turning (files : OutputFiles) (count i commits : ℕ) (start now : Ma
   pub most_commits : commits ≤ i
   pub so_far : (m : Model) → StandsFor start m none_made → TurnsSoFar files count i commits m now a b o p
 
-pub turns_start : (files : OutputFiles) (count : ℕ) (start : Machine) (a : ShelfView) (o : SinkView) → IsFresh start → Turning files count 0 0 start start a a o o
+pub turns_start : (files : OutputFiles) (count : ℕ) (start : Machine) (a : ShelfView) (o : SinkView) → IsFresh start
+    → Turning files count 0 0 start start a a o o
 turns_start files count start a o fresh = record {
   numbers = refl;
   cpus = fresh.cpus;
@@ -53,71 +81,73 @@ turns_start files count start a o fresh = record {
     rest = count;
     rest_is = omega arith;
     stands = stands;
-    counts = refl;
-    built = omega arith;
-    left = left_all files (turns_pieces (built_turns count m) 0 m) a o;
+    counted = refl;
+    left = left_all files (turns_pieces 0 (run_tells count m)) a o;
   };
 }
 
 -- the number of the turns left, where one is
-pub one_left : (files : OutputFiles) (count i commits : ℕ) (m : Model) (now : Machine) (a b : ShelfView) (o p : SinkView) → i < count → (so : TurnsSoFar files count i commits m now a b o p) → so.rest ≡ suc (count - (i + 1))
+one_left : (files : OutputFiles) (count i commits : ℕ) (m : Model) (now : Machine) (a b : ShelfView) (o p : SinkView) → i < count
+    → (so : TurnsSoFar files count i commits m now a b o p) → so.rest ≡ suc (count - (i + 1))
 one_left files count i commits m now a b o p lt so = omega (arith, so.rest_is)
 
-pub turns_next : {T E : Type 0} (files : OutputFiles) (count i k n : ℕ) (m : Model) (now after : Machine) (a b c : ShelfView) (o p q : SinkView) (x : T) → i < count → TurnsSoFar files count i k m now a b o p → Puts {E = E} files (built_pieces k (after_turns i m)) b c p q (Ok x) → is_built (after_turns i m) 0 ≡ true → n ≡ counted k (after_turns i m) 0 → StandsFor after (turned (after_turns i m) 0) (record { turns = i + 1; commits = n }) → TurnsSoFar files count (i + 1) n m after a c o q
-turns_next files count i k n m now after a b c o p q x lt so h built is stands =
+next_pieces : (rest r k : ℕ) (m : Model) → rest ≡ suc r → turns_pieces k (run_tells rest m)
+    ≡ turn_pieces k (told_at m 0) ++ turns_pieces (commits_by (Some (event_at m 0)) k) (run_tells r (turned m 0))
+next_pieces rest r k m e = ap (λ j. turns_pieces k (run_tells j m)) e ∙ turn_split r k m
+
+next_counts : (rest r i k : ℕ) (m : Model) → rest ≡ suc r → count_turns (faultless i k) (run_tells rest m)
+    ≡ count_turns (faultless (i + 1) (commits_by (Some (event_at m 0)) k)) (run_tells r (turned m 0))
+next_counts rest r i k m e =
+    ap (λ j. count_turns (faultless i k) (run_tells j m)) e
+    ∙ ap (λ (c : Counts). count_turns c (run_tells r (turned m 0))) (count_one i k m)
+
+pub turns_next : {T E : Type 0} (files : OutputFiles) (count i k n : ℕ) (m : Model) (now later : Machine) (a b c : ShelfView) (o p q : SinkView) (x : T)
+    → i < count → TurnsSoFar files count i k m now a b o p
+    → Puts {E = E} files (turn_pieces k (told_at (after i m) 0)) b c p q (Ok x)
+    → StandsAfter (after i m) (record { turns = i; commits = k }) later n
+    → TurnsSoFar files count (i + 1) n m later a c o q
+turns_next files count i k n m now later a b c o p q x lt so h made =
     let r : ℕ = count - (i + 1) in
-    let mi : Model = after_turns i m in
+    let mi : Model = after i m in
     let e : so.rest ≡ suc r = one_left files count i k m now a b o p lt so in
-    let behind : List Piece = turns_pieces (built_turns r (turned mi 0)) n (turned mi 0) in
-    let counted_step : turns_pieces (built_turns so.rest mi) k mi ≡ built_pieces k mi ++ turns_pieces (built_turns r (turned mi 0)) (counted k mi 0) (turned mi 0) = rw e (turns_split r k mi true built) in
-    let step : turns_pieces (built_turns so.rest mi) k mi ≡ built_pieces k mi ++ behind = counted_step ∙ ap (λ j. built_pieces k mi ++ turns_pieces (built_turns r (turned mi 0)) j (turned mi 0)) (sym is) in
-    let one : built_turns so.rest mi ≡ suc (built_turns r (turned mi 0)) = rw (e, built) refl in
     let plus : i + 1 ≡ suc i = omega arith in
-    let an : turned mi 0 ≡ after_turns (i + 1) m = sym (ap (λ j. after_turns j m) plus ∙ after_next i m) in
-    let all : List Piece = turns_pieces (built_turns count m) 0 m in
-    let more : Left files all behind a c o q = left_less files all (turns_pieces (built_turns so.rest mi) k mi) (built_pieces k mi) behind a b c o p q x step so.left h in
-    let sum : built_turns count m ≡ (i + 1) + built_turns r (turned mi 0) = omega (arith, so.built, one) in
+    let an : turned mi 0 ≡ after (i + 1) m = sym (ap (λ j. after j m) plus ∙ after_next i m) in
+    let all : List Piece = turns_pieces 0 (run_tells count m) in
+    let behind : List Piece = turns_pieces n (run_tells r (turned mi 0)) in
+    let step : turns_pieces k (run_tells so.rest mi) ≡ turn_pieces k (told_at mi 0) ++ behind =
+    next_pieces so.rest r k mi e ∙ ap (λ j. turn_pieces k (told_at mi 0) ++ turns_pieces j (run_tells r (turned mi 0))) (sym made.counted) in
+    let counted : counts (run_tells count m) ≡ count_turns (faultless (i + 1) n) (run_tells r (turned mi 0)) =
+    so.counted ∙ next_counts so.rest r i k mi e ∙ ap (λ j. count_turns (faultless (i + 1) j) (run_tells r (turned mi 0))) (sym made.counted) in
+    let more : Left files all behind a c o q =
+    left_less files all (turns_pieces k (run_tells so.rest mi)) (turn_pieces k (told_at mi 0)) behind a b c o p q x step so.left h in
     record {
       rest = r;
       rest_is = omega (arith, so.rest_is);
-      stands = subst (λ z. StandsFor after z (record { turns = i + 1; commits = n })) an stands;
-      counts = is ∙ ap (λ j. counted j mi 0) so.counts ∙ sym (ap (λ j. commits_after j 0 m) plus ∙ commits_next i 0 m);
-      built = subst (λ z. built_turns count m ≡ (i + 1) + built_turns r z) an sum;
-      left = subst (λ z. Left files all (turns_pieces (built_turns r z) n z) a c o q) an more;
+      stands = subst (λ z. StandsFor later z (record { turns = i + 1; commits = n })) an made.stands;
+      counted = subst (λ z. counts (run_tells count m) ≡ count_turns (faultless (i + 1) n) (run_tells r z)) an counted;
+      left = subst (λ z. Left files all (turns_pieces n (run_tells r z)) a c o q) an more;
     }
 
 -- a turn that failed ends the loop
-pub turns_failed : {T U E : Type 0} (files : OutputFiles) (count i k : ℕ) (m : Model) (now : Machine) (a b c : ShelfView) (o p q : SinkView) (f : E) → i < count → TurnsSoFar files count i k m now a b o p → Puts {T = T} files (built_pieces k (after_turns i m)) b c p q (Err f) → Puts {T = U} files (turns_pieces (built_turns count m) 0 m) a c o q (Err f)
+pub turns_failed : {T U E : Type 0} (files : OutputFiles) (count i k : ℕ) (m : Model) (now : Machine) (a b c : ShelfView) (o p q : SinkView) (f : E)
+    → i < count → TurnsSoFar files count i k m now a b o p
+    → Puts {T = T} files (turn_pieces k (told_at (after i m) 0)) b c p q (Err f)
+    → Puts {T = U} files (turns_pieces 0 (run_tells count m)) a c o q (Err f)
 turns_failed {T} {U} {E} files count i k m now a b c o p q f lt so h =
     let r : ℕ = count - (i + 1) in
-    let mi : Model = after_turns i m in
+    let mi : Model = after i m in
     let e : so.rest ≡ suc r = one_left files count i k m now a b o p lt so in
-    let rest : List Piece = if is_built mi 0 then turns_pieces (built_turns r (turned mi 0)) (counted k mi 0) (turned mi 0) else [] in
-    let step : turns_pieces (built_turns so.rest mi) k mi ≡ built_pieces k mi ++ rest = rw e (turns_split r k mi (is_built mi 0) refl) in
-    left_cut {T = T} {U = U} files (turns_pieces (built_turns count m) 0 m) (turns_pieces (built_turns so.rest mi) k mi) (built_pieces k mi) rest a b c o p q f step so.left h
-
--- a turn that is not built ends it too, and the turns before it are all that are made
-pub turns_not_yet : {T E : Type 0} (files : OutputFiles) (count i k : ℕ) (m : Model) (now : Machine) (a b c : ShelfView) (o p q : SinkView) (x : T) → i < count → TurnsSoFar files count i k m now a b o p → Puts {E = E} files (built_pieces k (after_turns i m)) b c p q (Ok x) → is_built (after_turns i m) 0 ≡ false → MakesTurns {E = E} files count m a c o q (Ok (record { turns = i; commits = k }))
-turns_not_yet {T} {E} files count i k m now a b c o p q x lt so h built =
-    let r : ℕ = count - (i + 1) in
-    let mi : Model = after_turns i m in
-    let e : so.rest ≡ suc r = one_left files count i k m now a b o p lt so in
-    let step : turns_pieces (built_turns so.rest mi) k mi ≡ built_pieces k mi ++ [] = rw e (turns_split r k mi false built) in
-    let none : built_turns so.rest mi ≡ 0 = rw (e, built) refl in
-    let all : i ≡ built_turns count m = omega (arith, so.built, none) in
-    let more : Left files (turns_pieces (built_turns count m) 0 m) [] a c o q = left_less files (turns_pieces (built_turns count m) 0 m) (turns_pieces (built_turns so.rest mi) k mi) (built_pieces k mi) [] a b c o p q x step so.left h in
-    record {
-      written = left_none files (turns_pieces (built_turns count m) 0 m) [] a c o q (record { turns = i; commits = k }) refl more;
-      made = record { turns = all; commits = so.counts ∙ ap (λ j. commits_after j 0 m) all };
-    }
+    left_cut {T = T} {U = U} files (turns_pieces 0 (run_tells count m)) (turns_pieces k (run_tells so.rest mi)) (turn_pieces k (told_at mi 0))
+    (turns_pieces (commits_by (Some (event_at mi 0)) k) (run_tells r (turned mi 0))) a b c o p q f (next_pieces so.rest r k mi e) so.left h
 
 -- all turns are made
-pub turns_done : {E : Type 0} (files : OutputFiles) (count k : ℕ) (m : Model) (now : Machine) (a b : ShelfView) (o p : SinkView) → TurnsSoFar files count count k m now a b o p → MakesTurns {E = E} files count m a b o p (Ok (record { turns = count; commits = k }))
+pub turns_done : {E : Type 0} (files : OutputFiles) (count k : ℕ) (m : Model) (now : Machine) (a b : ShelfView) (o p : SinkView)
+    → TurnsSoFar files count count k m now a b o p
+    → MakesTurns {E = E} files count m a b o p (Ok (record { turns = count; commits = k }))
 turns_done files count k m now a b o p so =
     let e : so.rest ≡ 0 = omega (arith, so.rest_is) in
-    let none : built_turns so.rest (after_turns count m) ≡ 0 = rw e refl in
-    let all : count ≡ built_turns count m = omega (arith, so.built, none) in
     record {
-      written = left_none files (turns_pieces (built_turns count m) 0 m) (turns_pieces (built_turns so.rest (after_turns count m)) k (after_turns count m)) a b o p (record { turns = count; commits = k }) (rw e refl) so.left;
-      made = record { turns = all; commits = so.counts ∙ ap (λ j. commits_after j 0 m) all };
+      written = left_none files (turns_pieces 0 (run_tells count m)) (turns_pieces k (run_tells so.rest (after count m))) a b o p
+          (record { turns = count; commits = k }) (rw e refl) so.left;
+      made = so.counted ∙ rw e refl;
     }

@@ -1,8 +1,8 @@
 -- Refusals of a deck.
 use Rattle.std.specs.Prelude.{◌≡◌, ◌≢◌, ℕ, List, Err}
-use Rattle.esa_model.specs.Image.{image}
-use Rattle.esa_model.specs.declared.decks.DeckRefusal.{DeckRefusal}
-use Rattle.esa_model.specs.declared.decks.DeckRefusal.TheVariants.{NoMemory}
+use Rattle.deck_model.specs.Image.{image}
+use Rattle.deck_model.specs.declared.decks.DeckRefusal.{DeckRefusal}
+use Rattle.deck_model.specs.declared.decks.DeckRefusal.TheVariants.{NoMemory}
 
 -- the bytes of the storage: 128 KiB
 abbrev pub storage_size : ℕ

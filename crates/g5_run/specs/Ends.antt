@@ -1,15 +1,16 @@
 -- How a run of the program ends, and what it leaves.
-use Rattle.std.specs.Prelude.{◌≡◌, ◌⊎◌, ℕ, ◌<◌, List, [], ◌∷◌, ◌++◌, Option, Some, None, IsTrue, true, false, codes}
+use Rattle.std.specs.Prelude.{◌≡◌, ◌⊎◌, ℕ, List, [], ◌∷◌, ◌++◌, Option, Some, None, IsTrue, true, codes}
 use Rattle.g5_outside.specs.Views.{ShelfView, SinkView}
 use Rattle.g5_outside.specs.Causes.{Rose}
-use Rattle.g5_writing.specs.Starts.{text_named}
-use Rattle.esa_model.specs.declared.outputs.Place.TheVariants.{Log, Trace, Out}
-use Rattle.esa_model.specs.Pieces.{Piece, text, IsCut}
+use Rattle.g5_writing.specs.Starts.{text_named, OnlyNames}
+use Rattle.run_model.specs.declared.outputs.Place.TheVariants.{Log, Trace, Out}
+use Rattle.run_model.specs.Pieces.{Piece, text, IsCut}
 use Rattle.esa_model.specs.Machine.{Machine as Model}
-use Rattle.esa_model.specs.Texts.{whole, pieces_before, after_turns, commits_after, report}
-use Rattle.g5_machine.specs.Built.{is_built}
+use Rattle.run_model.specs.declared.outputs.Counts.{Counts}
+use Rattle.run_model.specs.Counts.{counts}
+use Rattle.run_model.specs.Texts.{report}
 use Rattle.g5_run.specs.Words.{Names}
-use Rattle.g5_run.specs.RunTexts.{run_pieces, are_built, faultless}
+use Rattle.g5_run.specs.RunTexts.{run_pieces, run_tells}
 use Rattle.g5_run.specs.Readiness.{IsRun, IsNotReady}
 use Rattle.g5_run.specs.Lines.{line_of}
 use Rattle.g5_run.specs.Says.{Says}
@@ -27,25 +28,23 @@ pub record Untouched (old new : ShelfView) (out_old out_new : SinkView) : Type 0
   pub numbers : new.numbers ≡ old.numbers
   pub out : out_new ≡ out_old
 
--- all turns of the schedule were made, so many of them were commits, and the outputs are whole
-pub record EndsWhole (names : Names) (turns commits : ℕ) (old new : ShelfView) (out_old out_new : SinkView) : Type 0 where
-  pub m : Model
-  pub run : IsRun names old turns m
-  pub built : are_built turns m ≡ true
-  pub counts : commits ≡ commits_after turns 0 m
-  pub holds : Holds names (whole turns m) new out_old out_new
-  pub found : new.found ≡ true
+-- log and trace were created under their names, and no other file
+pub record HasOutputs (names : Names) (shelf : ShelfView) : Type 0 where
+  pub log : ℕ
+  pub trace : ℕ
+  pub numbers : shelf.numbers ≡ trace ∷ log ∷ []
+  pub log_name : IsTrue shelf.told → shelf.name_of log ≡ names.log
+  pub trace_name : IsTrue shelf.told → shelf.name_of trace ≡ names.trace
 
--- the turns before the first that is not built were made, and the outputs have their pieces
-pub record EndsBefore (names : Names) (old new : ShelfView) (out_old out_new : SinkView) : Type 0 where
+-- all turns of the schedule were made, these are their counts, and the outputs are whole
+pub record EndsWhole (names : Names) (count : Counts) (old new : ShelfView) (out_old out_new : SinkView) : Type 0 where
   pub m : Model
   pub turns : ℕ
   pub run : IsRun names old turns m
-  pub made : ℕ
-  pub fewer : made < turns
-  pub built : are_built made m ≡ true
-  pub unbuilt : is_built (after_turns made m) 0 ≡ false
-  pub holds : Holds names (pieces_before made m) new out_old out_new
+  pub counted : count ≡ counts (run_tells turns m)
+  pub holds : Holds names (run_pieces turns m) new out_old out_new
+  pub outputs : HasOutputs names new
+  pub told : new.told ≡ old.told
   pub found : new.found ≡ true
 
 -- the pieces before a failed write are whole, that one is there in part or not at all, and those behind it are missing
@@ -56,6 +55,8 @@ pub record EndsCut (names : Names) (old new : ShelfView) (out_old out_new : Sink
   pub held : List Piece
   pub cut : IsCut held (run_pieces turns m)
   pub holds : Holds names held new out_old out_new
+  pub named : IsTrue new.told → OnlyNames names.log names.trace new
+  pub told : new.told ≡ old.told
   pub cause : Rose old.write_faults new.write_faults ⊎ Rose out_old.faults out_new.faults
   pub found : new.found ≡ true
 
@@ -73,11 +74,11 @@ EndsEarly names a b o p WriteFault = EndsCut names a b o p
 EndsEarly names a b o p (DeckRefused refusal) = EndsUntouched (IsNotReady names a b (DeckRefused refusal)) a b o p
 EndsEarly names a b o p (TooLarge input) = EndsUntouched (IsNotReady names a b (TooLarge input)) a b o p
 EndsEarly names a b o p NoMemory = EndsUntouched (IsNotReady names a b NoMemory) a b o p
-EndsEarly names a b o p NotYet = EndsUntouched (IsNotReady names a b NotYet) a b o p ⊎ EndsBefore names a b o p
+EndsEarly names a b o p NotYet = EndsUntouched (IsNotReady names a b NotYet) a b o p
 
 -- Done has the report on `err`, and each other status its line
 abbrev pub JobEnds : Names → ShelfView → ShelfView → SinkView → SinkView → SinkView → SinkView → Status → Type 0
-JobEnds names a b o p e f Done = (turns : ℕ) × (commits : ℕ) × EndsWhole names turns commits a b o p × Says (report (faultless turns commits)) e f
+JobEnds names a b o p e f Done = (count : Counts) × EndsWhole names count a b o p × Says (report true count) e f
 JobEnds names a b o p e f Usage = ⊥
 JobEnds names a b o p e f (NoFile input) = EndsEarly names a b o p (NoFile input) × Says (line_of names (NoFile input)) e f
 JobEnds names a b o p e f ReadFault = EndsEarly names a b o p ReadFault × Says (line_of names ReadFault) e f

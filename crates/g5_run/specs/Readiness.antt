@@ -2,7 +2,7 @@
 use Rattle.std.specs.Prelude.{◌≡◌, ℕ, Ok, Some, None, true}
 use Rattle.g5_outside.specs.Views.{ShelfView}
 use Rattle.g5_outside.specs.Causes.{Rose}
-use Rattle.esa_model.specs.Image.{Image, image}
+use Rattle.deck_model.specs.Image.{Image, image}
 use Rattle.esa_model.specs.Machine.{Machine as Model, start}
 use Rattle.g5_machine.specs.Turns.{StandsFor}
 use Rattle.g5_run.specs.Words.{Names}
@@ -10,7 +10,7 @@ use Rattle.g5_run.specs.Inputs.{InputBytes, AreRead, IsAbsent, IsAboveLimit}
 use Rattle.g5_run.specs.Asked.{asked}
 use Rattle.g5_run.specs.Making.{none_made}
 use Rattle.g5_run.specs.DeckRefusals.{storage_size, IsDeckRefusal}
-use Rattle.esa_model.specs.declared.decks.DeckRefusal.{DeckRefusal}
+use Rattle.deck_model.specs.declared.decks.DeckRefusal.{DeckRefusal}
 use Rattle.g5_run.specs.declared.loading.Ready.{Ready}
 use Rattle.g5_run.specs.declared.status.Status.{Status}
 use Rattle.g5_run.specs.declared.status.Status.TheVariants.{Done, Usage, NoFile, ReadFault, WriteFault, DeckRefused, TooLarge, NoMemory, NotYet}

@@ -1,7 +1,7 @@
 -- The form of a schedule that is built: one word, turns of the one CPU. Source: choice of this project.
 use Rattle.std.specs.Prelude.{ℕ, ◌-◌, ◌==◌, ◌&&◌, nat_lt, if◌then◌else◌, List, length, take, drop, slice_index, Option, None}
-use Rattle.esa_model.specs.Numbers.{number_up_to}
-use Rattle.esa_model.specs.Schedule.{from_one}
+use Rattle.run_model.specs.Numbers.{number_up_to}
+use Rattle.run_model.specs.Schedule.{from_one}
 
 -- without the line feed at its end, if it has one
 abbrev pub one_word : List ℕ → List ℕ

@@ -12,7 +12,7 @@ mod status;
 mod top;
 mod turning;
 
-pub use esa_model::decks::DeckRefusal;
+pub use deck_model::decks::DeckRefusal;
 pub use inputs::Input;
 pub use status::Status;
 pub use top::g5_top;

@@ -11,7 +11,7 @@ use crate::inputs::Input;
 use crate::job::Job;
 use crate::status::Status;
 use arrayvec::ArrayVec;
-use esa_model::decks::DeckRefusal;
+use deck_model::decks::DeckRefusal;
 use esa_words::decimal;
 use g5_outside::{Failed, Sink};
 use g5_writing::add_to_sink;

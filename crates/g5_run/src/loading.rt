@@ -1,6 +1,6 @@
 // All that is done before a file is created.
 ghost use Rattle.std.specs.Prelude.{◌≡◌, ◌<◌, ◌≤◌, ◌^◌, ◌*◌, ◌%◌, ℕ, List, length, IfOk, IfErr, Ok};
-ghost use Rattle.esa_model.specs.Image.{image};
+ghost use Rattle.deck_model.specs.Image.{image};
 ghost use Rattle.deck_loader.specs.Listed.{Refuses};
 ghost use Rattle.g5_reading.specs.Inputs.{OnlyReads};
 ghost use Rattle.g5_outside.specs.Views.{ShelfView};
@@ -15,7 +15,7 @@ use crate::job::Job;
 use crate::status::Status;
 use abs_storage::AbsStorage;
 use deck_loader::load;
-use esa_model::decks::{DeckRefusal, Loaded};
+use deck_model::decks::{DeckRefusal, Loaded};
 use g5_machine::Machine;
 use g5_outside::Shelf;
 use std::alloc::Global;

@@ -3,7 +3,7 @@ ghost use Rattle.std.specs.Prelude.{◌≡◌};
 ghost use Rattle.g5_run.specs.StatusNumbers.{status_number};
 
 use crate::inputs::Input;
-use esa_model::decks::DeckRefusal;
+use deck_model::decks::DeckRefusal;
 
 /// How a run of the program ended.
 #[derive(Clone, Copy, Debug, PartialEq, Eq)]

@@ -44,7 +44,7 @@ const TRACE: &[u8] = b"\
 9 C0 00082000 8001001A\n\
 10 C0 00082000 8001001C\n";
 
-const HEAD: &[u8] = b"G5LOG 1 CPUS 1 SPARES 0 THRESHOLD 3\n";
+const HEAD: &[u8] = b"G5LOG 2 CPUS 1 SPARES 0 THRESHOLD 3\n";
 
 const WORDS: &[&str] = &["run", "D", "C", "S", "F", "L", "T"];
 

@@ -37,14 +37,9 @@ fn run_job<F: Shelf, O: Sink>(alloc: Global, job: &Job<'_>, shelf: &mut F, out: 
         Ok(files) => files,
         Err(_) => return Ending::Early(Status::WriteFault),
     };
-    let tally = match make_run(shelf, out, files, &mut ready.machine, ready.turns) {
-        Ok(tally) => tally,
-        Err(_) => return Ending::Early(Status::WriteFault),
-    };
-    if tally.turns == ready.turns {
-        Ending::Whole(tally)
-    } else {
-        Ending::Early(Status::NotYet)
+    match make_run(shelf, out, files, &mut ready.machine, ready.turns) {
+        Ok(tally) => Ending::Whole(tally),
+        Err(_) => Ending::Early(Status::WriteFault),
     }
 }
 
@@ -57,7 +52,8 @@ fn obey<F: Shelf, O: Sink, E: Sink>(
     err: &mut E,
 ) -> Status
     requires { (F.seen shelf.old).numbers ≡ [] }
-    ensures { Ends (job_names (words_of words.now)) (F.seen shelf.old) (F.seen shelf.new) (O.seen out.old) (O.seen out.new) (E.seen err.old) (E.seen err.new) result }
+    ensures { Ends (job_names (words_of words.now)) (F.seen shelf.old) (F.seen shelf.new)
+        (O.seen out.old) (O.seen out.new) (E.seen err.old) (E.seen err.new) result }
 {
     let job = match job_of(words) {
         Some(job) => job,
@@ -88,9 +84,14 @@ pub fn g5_top<F: Shelf, O: Sink, E: Sink>(
     err: &mut E,
 ) -> Status
     requires { (F.seen shelf.old).numbers ≡ [] }
-    ensures ends { Ends (job_names (words_of words.now)) (F.seen shelf.old) (F.seen shelf.new) (O.seen out.old) (O.seen out.new) (E.seen err.old) (E.seen err.new) result }
-    ensures untouched { ComesBeforeOutput result → Untouched (F.seen shelf.old) (F.seen shelf.new) (O.seen out.old) (O.seen out.new) }
-    ensures complete { (names : Names) → (turns : ℕ) → job_names (words_of words.now) ≡ Some names → IsAccepted names (F.seen shelf.old) turns → NothingFailed (F.seen shelf.old) (F.seen shelf.new) (O.seen out.old) (O.seen out.new) → (result ≡ Status.Done) ⊎ (result ≡ Status.NoMemory) }
+    ensures ends { Ends (job_names (words_of words.now)) (F.seen shelf.old) (F.seen shelf.new)
+        (O.seen out.old) (O.seen out.new) (E.seen err.old) (E.seen err.new) result }
+    ensures untouched { ComesBeforeOutput result
+        → Untouched (F.seen shelf.old) (F.seen shelf.new) (O.seen out.old) (O.seen out.new) }
+    ensures complete { (names : Names) → (turns : ℕ) → job_names (words_of words.now) ≡ Some names
+        → IsAccepted names (F.seen shelf.old) turns
+        → NothingFailed (F.seen shelf.old) (F.seen shelf.new) (O.seen out.old) (O.seen out.new)
+        → (result ≡ Status.Done) ⊎ (result ≡ Status.NoMemory) }
 {
     obey(alloc, words, shelf, out, err)
 }

@@ -1,8 +1,9 @@
 // One turn after another, and what they write.
-ghost use Rattle.std.specs.Prelude.{◌≡◌, ◌<◌, ◌≤◌, ◌+◌, ◌^◌, ◌∷◌, [], length, IfOk, IfSome};
+ghost use Rattle.std.specs.Prelude.{◌≡◌, ◌<◌, ◌≤◌, ◌+◌, ◌^◌, ◌∷◌, [], length, IfOk};
 ghost use Rattle.esa_model.specs.Machine.{Machine as Model};
-ghost use Rattle.esa_model.specs.Pieces.{piece};
-ghost use Rattle.esa_model.specs.Trace.{trace_line, stretches};
+ghost use Rattle.run_model.specs.Pieces.{piece};
+ghost use Rattle.esa_model.specs.Changes.{stretches};
+ghost use Rattle.run_model.specs.Trace.{trace_line};
 ghost use Rattle.g5_machine.specs.Turns.{StandsFor, Made};
 ghost use Rattle.g5_writing.specs.Outputs.{HasFiles, Puts};
 ghost use Rattle.g5_run.specs.Making.{IsFresh, none_made, MakesTurn, MakesTurns};
@@ -38,15 +39,15 @@ fn write_commit<F: Shelf, O: Sink>(
     put(shelf, out, files, Place::Out, &turn.written.console)
 }
 
-// Makes one turn, before which so many commits were made, and writes what it gives. It answers how many commits
-// were made after it. A turn that is not built writes nothing and has no answer.
+// Makes one turn, before which so many commits were made, and writes what it gives. It answers how many
+// commits were made after it.
 fn make_turn<F: Shelf, O: Sink>(
     shelf: &mut F,
     out: &mut O,
     files: OutputFiles,
     machine: &mut Machine,
     commits: u64,
-) -> Result<Option<u64>, Failed>
+) -> Result<u64, Failed>
     requires files { HasFiles (F.seen shelf.old) files }
     requires cpus { length machine.old.registers.items ≡ 1 }
     requires turns { machine.old.counts.turns < 2 ^ 48 }
@@ -54,21 +55,21 @@ fn make_turn<F: Shelf, O: Sink>(
     ensures numbers { (F.seen shelf.new).numbers ≡ (F.seen shelf.old).numbers }
     ensures cpus { length machine.new.registers.items ≡ length machine.old.registers.items }
     ensures rise { machine.new.counts.turns ≤ machine.old.counts.turns + 1 }
-    ensures commits { IfOk result (λ after. IfSome after (λ n. n ≤ commits + 1)) }
-    ensures turn { (m : Model) → (made : Made) → made.commits ≡ commits → StandsFor machine.old m made → MakesTurn files m made machine.new (F.seen shelf.old) (F.seen shelf.new) (O.seen out.old) (O.seen out.new) result }
+    ensures commits { IfOk result (λ after. after ≤ commits + 1) }
+    ensures turn { (m : Model) → (made : Made) → made.commits ≡ commits → StandsFor machine.old m made
+        → MakesTurn files m made machine.new (F.seen shelf.old) (F.seen shelf.new) (O.seen out.old) (O.seen out.new) result }
 {
     let turn = machine.turn(CpuNo(0));
     match turn.outcome {
-        Outcome::NotYet => Ok(None),
-        Outcome::Idle => Ok(Some(commits)),
+        Outcome::Idle => Ok(commits),
         Outcome::Committed => match write_commit(shelf, out, files, commits + 1, &turn) {
             Err(failed) => Err(failed),
-            Ok(()) => Ok(Some(commits + 1)),
+            Ok(()) => Ok(commits + 1),
         },
     }
 }
 
-/// Makes so many turns of a machine at its start, or those before the first that is not built, and counts them.
+/// Makes so many turns of a machine at its start, and counts them.
 pub fn make_turns<F: Shelf, O: Sink>(
     shelf: &mut F,
     out: &mut O,
@@ -80,17 +81,15 @@ pub fn make_turns<F: Shelf, O: Sink>(
     requires fresh { IsFresh machine.old }
     requires count { count ≤ 1000000 }
     ensures numbers { (F.seen shelf.new).numbers ≡ (F.seen shelf.old).numbers }
-    ensures turns { (m : Model) → StandsFor machine.old m none_made → MakesTurns files count m (F.seen shelf.old) (F.seen shelf.new) (O.seen out.old) (O.seen out.new) result }
+    ensures turns { (m : Model) → StandsFor machine.old m none_made
+        → MakesTurns files count m (F.seen shelf.old) (F.seen shelf.new) (O.seen out.old) (O.seen out.new) result }
+    ensures count { IfOk result (λ tally. tally.turns ≡ count) }
 {
     let mut commits = 0;
     'turns: for turn in 0..count {
         match make_turn(shelf, out, files, machine, commits) {
             Err(failed) => return Err(failed),
-            Ok(None) => return Ok(Tally {
-                turns: turn,
-                commits,
-            }),
-            Ok(Some(after)) => commits = after,
+            Ok(after) => commits = after,
         }
     }
     Ok(Tally {

@@ -1,7 +1,7 @@
 -- A loop that writes pieces: those done, and those left.
 use Rattle.std.proofs.Common.{◌≡◌, List, [], ◌++◌, refl, sym, ◌∙◌, ap, subst, append_assoc, append-nil, Ok, Err}
 use Rattle.g5_outside.specs.Views.{ShelfView, SinkView}
-use Rattle.esa_model.specs.Pieces.{Piece}
+use Rattle.run_model.specs.Pieces.{Piece}
 use Rattle.g5_writing.specs.Outputs.{Grew, Puts}
 use Rattle.g5_writing.specs.declared.outputs.OutputFiles.{OutputFiles}
 use Rattle.g5_writing.proofs.Putting.{grew_none, grew_more, puts_then, puts_stop, puts_grew}

@@ -2,11 +2,11 @@
 use Rattle.std.proofs.Common.{◌≡◌, ◌⊎◌, ℕ, List, [], ◌∷◌, ◌++◌, take, refl, sym, ◌∙◌, ap, subst, arith, append_assoc, append-nil, Result, Ok, Err, OnOk, OnErr, inl, inr, if◌then◌else◌}
 use Rattle.g5_outside.specs.Views.{ShelfView, SinkView}
 use Rattle.g5_outside.specs.Causes.{Rose}
-use Rattle.esa_model.specs.Pieces.{Piece, text, same_place}
+use Rattle.run_model.specs.Pieces.{Piece, text, same_place}
 use Rattle.g5_writing.specs.Outputs.{HasFiles, FileGrew, SinkGrew, Grew, Puts}
-use Rattle.esa_model.specs.declared.outputs.Place.{Place}
+use Rattle.run_model.specs.declared.outputs.Place.{Place}
 use Rattle.g5_writing.specs.declared.outputs.OutputFiles.{OutputFiles}
-use Rattle.esa_model.specs.declared.outputs.Place.TheVariants.{Log, Trace, Out}
+use Rattle.run_model.specs.declared.outputs.Place.TheVariants.{Log, Trace, Out}
 use Rattle.g5_writing.proofs.Faults.{rose_before}
 
 pub text-append : (p : Place) (xs ys : List Piece) → text p (xs ++ ys) ≡ text p xs ++ text p ys

@@ -1,8 +1,8 @@
 -- Lines as pieces.
 use Rattle.std.specs.Prelude.{ℕ, List, [], ◌∷◌}
 use Rattle.std.specs.Borrow.{Bor}
-use Rattle.esa_model.specs.Pieces.{Piece, piece}
-use Rattle.esa_model.specs.declared.outputs.Place.{Place}
+use Rattle.run_model.specs.Pieces.{Piece, piece}
+use Rattle.run_model.specs.declared.outputs.Place.{Place}
 
 -- one piece for each line, all in one place
 abbrev pub line_pieces : Place → List (Bor (List ℕ)) → List Piece

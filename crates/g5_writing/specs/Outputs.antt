@@ -2,9 +2,9 @@
 use Rattle.std.specs.Prelude.{◌≡◌, ◌≢◌, ◌⊎◌, ℕ, ◌≤◌, List, ◌++◌, take, IsTrue, Result, OnOk, OnErr}
 use Rattle.g5_outside.specs.Views.{ShelfView, SinkView, Gave}
 use Rattle.g5_outside.specs.Causes.{Rose}
-use Rattle.esa_model.specs.Pieces.{Piece, text, IsCut}
+use Rattle.run_model.specs.Pieces.{Piece, text, IsCut}
 use Rattle.g5_writing.specs.declared.outputs.OutputFiles.{OutputFiles}
-use Rattle.esa_model.specs.declared.outputs.Place.TheVariants.{Log, Trace, Out}
+use Rattle.run_model.specs.declared.outputs.Place.TheVariants.{Log, Trace, Out}
 
 -- the two files are there, and are two
 pub record HasFiles (shelf : ShelfView) (files : OutputFiles) : Type 0 where

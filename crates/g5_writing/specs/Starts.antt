@@ -1,7 +1,7 @@
 -- The start of the two files, and the files by the names that they were created under.
-use Rattle.std.specs.Prelude.{◌≡◌, ℕ, ◌≤◌, List, [], ◌∷◌, Result, IfOk, OnErr, IsTrue, if◌then◌else◌}
+use Rattle.std.specs.Prelude.{◌≡◌, ◌⊎◌, ℕ, ◌≤◌, List, [], ◌∷◌, Result, IfOk, OnErr, IsTrue, if◌then◌else◌}
 use Rattle.std.specs.Str.{bytes_eq}
-use Rattle.g5_outside.specs.Views.{ShelfView}
+use Rattle.g5_outside.specs.Views.{ShelfView, Gave}
 use Rattle.g5_outside.specs.Causes.{Rose}
 use Rattle.g5_writing.specs.Outputs.{HasFiles}
 use Rattle.g5_writing.specs.declared.outputs.OutputFiles.{OutputFiles}
@@ -13,6 +13,10 @@ text_among shelf name (n ∷ ns) = if bytes_eq (shelf.name_of n) name then shelf
 -- the bytes of the newest file that was created under a name, or none
 abbrev pub text_named : ShelfView → List ℕ → List ℕ
 text_named shelf name = text_among shelf name shelf.numbers
+
+-- no file was created under any other name
+abbrev pub OnlyNames : List ℕ → List ℕ → ShelfView → Type 0
+OnlyNames log trace shelf = (n : ℕ) → Gave shelf.numbers n → (shelf.name_of n ≡ log) ⊎ (shelf.name_of n ≡ trace)
 
 -- two empty files of these names, or as many of them as could be made
 pub record Starts {E : Type 0} (log trace : List ℕ) (old new : ShelfView) (result : Result OutputFiles E) : Type 0 where
@@ -26,4 +30,5 @@ pub record Starts {E : Type 0} (log trace : List ℕ) (old new : ShelfView) (res
   pub numbers : IfOk result (λ files. new.numbers ≡ files.trace.0 ∷ files.log.0 ∷ [])
   pub log_name : IsTrue old.told → IfOk result (λ files. new.name_of files.log.0 ≡ log)
   pub trace_name : IsTrue old.told → IfOk result (λ files. new.name_of files.trace.0 ≡ trace)
+  pub named : IsTrue old.told → OnlyNames log trace new
   pub cause : OnErr result (Rose old.write_faults new.write_faults)

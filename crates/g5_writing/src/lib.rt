@@ -4,8 +4,8 @@
 mod outputs;
 mod starting;
 
-pub use esa_model::outputs::Place;
 pub use outputs::{OutputFiles, add_to_file, add_to_sink, put, put_all};
+pub use run_model::outputs::Place;
 pub use starting::start_files;
 
 #[cfg(test)]

@@ -1,12 +1,12 @@
 // The three outputs: two files of the shelf and the sink. Each piece goes to one of them.
 ghost use Rattle.std.specs.Prelude.{◌≡◌, ◌<◌, ◌≤◌, [], ◌∷◌, length, IsTrue};
 ghost use Rattle.g5_outside.specs.Views.{Gave};
-ghost use Rattle.esa_model.specs.Pieces.{Piece};
+ghost use Rattle.run_model.specs.Pieces.{Piece};
 ghost use Rattle.g5_writing.specs.Lines.{line_pieces};
 ghost use Rattle.g5_writing.specs.Outputs.{HasFiles, AddsToFile, AddsToSink, Puts};
 
-use esa_model::outputs::Place;
 use g5_outside::{Failed, FileNo, Shelf, Sink};
+use run_model::outputs::Place;
 
 /// The two files that a run writes.
 #[derive(Clone, Copy, Debug, PartialEq, Eq)]

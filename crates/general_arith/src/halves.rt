@@ -65,6 +65,8 @@ fn leftmost_of(mask: u16) -> u8
     place
 }
 
+/// 0 all selected bits zero or none selected, 1 mixed with the leftmost of them zero, 2 mixed with
+/// it one, 3 all ones.
 #[tactic(auto, unfolding(esa_model::specs::WordRows::test_code))]
 fn test_under_mask(bits: u16, mask: u16) -> u8
     ensures { result ≡ test_code bits mask }
@@ -95,8 +97,9 @@ fn test_low(a: u32, mask: u16) -> Value
     single(a, test_under_mask((a % 0x1_0000) as u16, mask), 0)
 }
 
-/// The value of a row on a register's word and a halfword. LHI, CHI, AHI and MHI have the opcodes of LH, CH, AH and MH,
-/// TMH and TML have X'A0' and X'A1'.
+/// The value of a row on a register's word and a halfword. LHI, CHI, AHI and MHI have the opcodes
+/// of LH, CH, AH and MH, TMH and TML have X'A0' and X'A1'. Source: Principles of Operation, chapter
+/// on general instructions.
 #[tactic(auto, unfolding(esa_model::specs::WordRows::half_row, esa_model::specs::WordRows::is_half))]
 pub fn half(op: u8, a: u32, b: u16) -> Value
     requires { IsTrue (is_half op) }

@@ -4,7 +4,9 @@ ghost use Rattle.std.specs.Prelude.{◌≡◌, ◌+◌, ◌*◌, ◌<◌, ◌≤
 ghost use Rattle.esa_model.specs.Word.{signed, arith};
 ghost use Rattle.esa_model.specs.WordRows.{word, sign_code, order_code, bits_code, signed_result, bits_result, pair, pair_bits, high_word, pair_result, value, plain};
 
+use esa_model::codes::{FIXED_OVERFLOW, STAYS};
 use esa_model::machine::Value;
+use esa_model::words::{signed32, wrap32};
 
 const WORDS: i128 = 0x1_0000_0000;
 
@@ -36,7 +38,7 @@ pub(crate) fn double(word: u32, low: u32, code: u8, fault: u8) -> Value
 pub(crate) fn unchanged(word: u32) -> Value
     ensures { result ≡ plain word }
 {
-    single(word, 4, 0)
+    single(word, STAYS, 0)
 }
 
 /// The signed number that a word stands for.
@@ -45,18 +47,7 @@ pub(crate) fn signed_of(w: u32) -> i128
     ensures low { neg_ℤ (pos (2 ^ 31)) ≤ℤ result }
     ensures high { result <ℤ pos (2 ^ 31) }
 {
-    if w < 0x8000_0000 {
-        i128::from(w)
-    } else {
-        i128::from(w) - WORDS
-    }
-}
-
-/// The word of a whole number, modulo 2^32.
-pub(crate) fn word_of(z: i128) -> u32
-    ensures { result ≡ word z }
-{
-    z.rem_euclid(WORDS) as u32
+    i128::from(signed32(w))
 }
 
 /// 0 zero, 1 negative, 2 positive.
@@ -97,9 +88,7 @@ pub(crate) fn code_of_bits(word: u32) -> u8
 pub(crate) fn code_of(z: i128) -> u8
     ensures { result ≡ arith z }
 {
-    if z < -0x8000_0000 {
-        3
-    } else if 0x7FFF_FFFF < z {
+    if z < -0x8000_0000 || 0x7FFF_FFFF < z {
         3
     } else {
         sign_of(z)
@@ -111,7 +100,7 @@ pub(crate) fn signed_value(z: i128) -> Value
     ensures { result ≡ signed_result z }
 {
     let code = code_of(z);
-    single(word_of(z), code, if code == 3 { 8 } else { 0 })
+    single(wrap32(z), code, if code == 3 { FIXED_OVERFLOW } else { 0 })
 }
 
 /// A result of bits.
@@ -141,12 +130,12 @@ pub(crate) fn bits_of_pair(high: u32, low: u32) -> u64
 pub(crate) fn high_word_of(z: i128) -> u32
     ensures { result ≡ high_word z }
 {
-    word_of(z.div_euclid(WORDS))
+    wrap32(z.div_euclid(WORDS))
 }
 
 /// A whole number in a pair, with the condition code as it was.
 pub(crate) fn pair_value(z: i128) -> Value
     ensures { result ≡ pair_result z }
 {
-    double(high_word_of(z), word_of(z), 4, 0)
+    double(high_word_of(z), wrap32(z), STAYS, 0)
 }

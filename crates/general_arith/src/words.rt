@@ -4,11 +4,16 @@ ghost use Rattle.std.specs.Prelude.{◌≡◌, ◌+◌, ◌-◌, ◌%◌, ◌<�
 ghost use Rattle.esa_model.specs.Word.{signed};
 ghost use Rattle.esa_model.specs.WordRows.{load_positive_row, load_negative_row, load_and_test_row, load_complement_row, and_row, or_row, exclusive_or_row, compare_logical_row, load_row, compare_row, add_row, subtract_row, multiply_row, multiply_single_row, divide_row, add_logical_row, subtract_logical_row, not_divided, rr_row, is_rr};
 
-use crate::numbers::*;
+use crate::numbers::{
+    bits_value, code_of, code_of_bits, double, order_of, pair_of, pair_value, sign_of, signed_of,
+    signed_value, single, unchanged,
+};
+use esa_model::codes::{FIXED_DIVIDE, STAYS};
 use esa_model::machine::Value;
+use esa_model::words::wrap32;
 
 /// The absolute value of a signed number.
-fn absolute(b: u32) -> i128
+fn absolute_of(b: u32) -> i128
     ensures { result ≡ pos (unsigned_abs (signed b)) }
 {
     let z = signed_of(b);
@@ -19,14 +24,14 @@ fn absolute(b: u32) -> i128
 fn load_positive(b: u32) -> Value
     ensures { result ≡ load_positive_row b }
 {
-    signed_value(absolute(b))
+    signed_value(absolute_of(b))
 }
 
 #[tactic(auto, unfolding(esa_model::specs::WordRows::load_negative_row))]
 fn load_negative(b: u32) -> Value
     ensures { result ≡ load_negative_row b }
 {
-    signed_value(-absolute(b))
+    signed_value(-absolute_of(b))
 }
 
 #[tactic(auto, unfolding(esa_model::specs::WordRows::load_and_test_row))]
@@ -110,7 +115,7 @@ fn multiply(low: u32, b: u32) -> Value
 pub(crate) fn multiply_single(a: u32, b: u32) -> Value
     ensures { result ≡ multiply_single_row a b }
 {
-    unchanged(word_of(signed_of(a) * signed_of(b)))
+    unchanged(wrap32(signed_of(a) * signed_of(b)))
 }
 
 /// The quotient toward zero.
@@ -133,11 +138,11 @@ fn remainder(z: i128, d: i128) -> i128
     z % d
 }
 
-/// A fixed-point divide exception, the pair as it was.
-fn no_quotient(a: u32, low: u32) -> Value
+/// A fixed-point divide exception, which leaves the pair.
+fn refuse_quotient(a: u32, low: u32) -> Value
     ensures { result ≡ not_divided a low }
 {
-    double(a, low, 4, 9)
+    double(a, low, STAYS, FIXED_DIVIDE)
 }
 
 #[tactic(auto, unfolding(esa_model::specs::WordRows::divide_row))]
@@ -145,15 +150,15 @@ fn divide(a: u32, low: u32, b: u32) -> Value
     ensures { result ≡ divide_row a low b }
 {
     if b == 0 {
-        return no_quotient(a, low);
+        return refuse_quotient(a, low);
     }
     let z = pair_of(a, low);
     let d = signed_of(b);
     let q = quotient(z, d);
     if code_of(q) == 3 {
-        return no_quotient(a, low);
+        return refuse_quotient(a, low);
     }
-    double(word_of(remainder(z, d)), word_of(q), 4, 0)
+    double(wrap32(remainder(z, d)), wrap32(q), STAYS, 0)
 }
 
 #[tactic(auto, unfolding(esa_model::specs::WordRows::add_logical_row))]
@@ -181,9 +186,9 @@ fn subtract_logical(a: u32, b: u32) -> Value
     single(word, code, 0)
 }
 
-/// The value of a row on words: `a` is the register's word, `a_low` the second word of a pair, `b` the second operand.
-/// `op` is the opcode of the RR or the RX row; MSR has that of MS. Source: Principles of Operation, chapter on
-/// general instructions.
+/// The value of a row on words: `a` is the register's word, `a_low` the second word of a pair, `b`
+/// the second operand. `op` is the opcode of the RR or the RX row; MSR has that of MS. Source:
+/// Principles of Operation, chapter on general instructions.
 #[tactic(auto, unfolding(esa_model::specs::WordRows::rr_row, esa_model::specs::WordRows::is_rr))]
 pub fn rr(op: u8, a: u32, a_low: u32, b: u32) -> Value
     requires { IsTrue (is_rr op) }

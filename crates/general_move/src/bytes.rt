@@ -1,47 +1,56 @@
+//! MVN, MVC, MVZ, NC, OC, XC, CLC and TRT on strings of bytes.
+
 ghost use Rattle.std.specs.Prelude.{◌≡◌, ◌+◌, ◌<◌, ◌≤◌, IsTrue, IfSome, position, length, slice_range, ◌==◌, if◌then◌else◌};
 ghost use Rattle.std.specs.List.{list_all};
 ghost use Rattle.esa_model.specs.Moves.{is_move, is_logical, combined, merged, moved, is_zero, move_code, compare_code, has_function, hit_of};
 
+use esa_model::codes::STAYS;
 use esa_model::long_operands::Hit;
 use std::cmp::Ordering;
 
-// The byte that is stored over a, from the byte b of the second operand.
+/// The byte that is stored over `a`, from the byte `b` of the second operand, by the opcode of MVN,
+/// MVC, MVZ, NC, OC or XC. Source: Principles of Operation, chapter on general instructions.
 #[tactic(auto, unfolding(esa_model::specs::Moves::combined))]
-fn combine(op: u8, a: u8, b: u8) -> u8
+pub fn combine(op: u8, a: u8, b: u8) -> u8
     requires { IsTrue (is_move op) }
     ensures { result ≡ combined op a b }
 {
     match op {
-        0xD1 => a / 16 * 16 + b % 16,
-        0xD2 => b,
-        0xD3 => b / 16 * 16 + a % 16,
-        0xD4 => a & b,
-        0xD6 => a | b,
-        0xD7 => a ^ b,
+        0xD1 => a / 16 * 16 + b % 16, // MVN
+        0xD2 => b, // MVC
+        0xD3 => b / 16 * 16 + a % 16, // MVZ
+        0xD4 => a & b, // NC
+        0xD6 => a | b, // OC
+        0xD7 => a ^ b, // XC
         _ => unreachable!(),
     }
 }
 
-fn all_zero(stored: &[u8]) -> bool
+fn are_all_zero(stored: &[u8]) -> bool
     ensures { result ≡ list_all is_zero stored.now }
 {
     stored.iter().all(|b| *b == 0)
 }
 
-// The condition code of a row that stored these bytes.
+/// The condition code of a row that stored these bytes: of NC, OC and XC 0 where all are zero and
+/// else 1; it stays at the others. Source: Principles of Operation, chapter on general
+/// instructions.
 #[tactic(auto, unfolding(esa_model::specs::Moves::move_code))]
-fn code_of(op: u8, stored: &[u8]) -> u8
-    ensures { result ≡ move_code op stored.now }
+pub fn code_of(op: u8, stored: &[u8]) -> u8
+    ensures code { result ≡ move_code op stored.now }
+    ensures small { result < 5 }
 {
-    if op == 0xD4 || op == 0xD6 || op == 0xD7 {
-        if all_zero(stored) { 0 } else { 1 }
-    } else {
-        4
+    match op {
+        0xD4 | 0xD6 | 0xD7 => u8::from(!are_all_zero(stored)),
+        _ => STAYS,
     }
 }
 
+/// The condition code of CLC: 0 equal, 1 first low, 2 first high, by the first unequal pair of
+/// bytes.
+/// Source: Principles of Operation, chapter on general instructions.
 #[tactic(auto, unfolding(esa_model::specs::Moves::compare_code))]
-fn compared(first: &[u8], second: &[u8]) -> u8
+pub fn compare_bytes(first: &[u8], second: &[u8]) -> u8
     ensures { result ≡ compare_code first.now second.now }
 {
     match first.cmp(&second) {
@@ -51,7 +60,7 @@ fn compared(first: &[u8], second: &[u8]) -> u8
     }
 }
 
-// Stores each combined byte; the operands do not overlap.
+/// Stores each combined byte; the operands do not overlap.
 fn merge(op: u8, first: &mut [u8], second: &[u8])
     requires row { IsTrue (is_move op) }
     requires same { length first.old ≡ length second.now }
@@ -62,29 +71,31 @@ fn merge(op: u8, first: &mut [u8], second: &[u8])
     }
 }
 
-/// MVN, MVC, MVZ, NC, OC, XC and CLC (X'D1' to X'D7') on two operands that do not overlap: gives the condition code, or
-/// 4 where the row leaves it. CLC stores nothing.
+/// MVN, MVC, MVZ, NC, CLC, OC and XC (X'D1' to X'D7') on two operands that do not overlap: gives
+/// the condition code, or the one that stays. CLC stores nothing. Source: Principles of Operation,
+/// chapter on general instructions.
 pub fn logical(op: u8, first: &mut [u8], second: &[u8]) -> u8
     requires row { IsTrue (is_logical op) }
     requires some { 1 ≤ length first.old }
     requires few { length first.old ≤ 256 }
     requires same { length first.old ≡ length second.now }
-    ensures stored { first.new ≡ (if op == 0xD5 then first.old else merged op first.old second.now) }
-    ensures code { result ≡ (if op == 0xD5 then compare_code first.old second.now else move_code op first.new) }
+    ensures stored { first.new ≡ (if op == 0xD5 then first.old
+        else merged op first.old second.now) }
+    ensures code { result ≡ (if op == 0xD5 then compare_code first.old second.now
+        else move_code op first.new) }
 {
     if op == 0xD5 {
-        return compared(first, second);
+        return compare_bytes(first, second);
     }
     merge(op, first, second);
     code_of(op, first)
 }
 
-/// MVN, MVC, MVZ, NC, OC and XC on two operands of `len` bytes in one area, at the places `to` and `from`, byte by byte
-/// from the left: gives the condition code, or 4 where the row leaves it.
+/// MVN, MVC, MVZ, NC, OC and XC on two operands of `len` bytes in one area, at the places `to` and
+/// `from`, byte by byte from the left: gives the condition code, or the one that stays. Source:
+/// Principles of Operation, chapter on general instructions.
 pub fn overlapped(op: u8, area: &mut [u8], to: usize, from: usize, len: usize) -> u8
     requires row { IsTrue (is_move op) }
-    requires some { 1 ≤ len }
-    requires few { len ≤ 256 }
     requires first { to + len ≤ length area.old }
     requires second { from + len ≤ length area.old }
     ensures stored { area.new ≡ moved op to from len area.old }
@@ -96,6 +107,7 @@ pub fn overlapped(op: u8, area: &mut [u8], to: usize, from: usize, len: usize) -
     code_of(op, &area[to..to + len])
 }
 
+/// The place of the first byte whose function byte is not zero.
 fn place_of_hit(first: &[u8], functions: &[u8; 256]) -> Option<usize>
     ensures value { result ≡ position (has_function functions.now) first.now }
     ensures within { IfSome result (λ i. i < length first.now) }
@@ -103,7 +115,8 @@ fn place_of_hit(first: &[u8], functions: &[u8; 256]) -> Option<usize>
     first.iter().position(|b| functions[usize::from(*b)] != 0)
 }
 
-/// TRT (X'DD'): the first byte from the left whose function byte is not zero, None where there is none.
+/// TRT (X'DD'): the first byte from the left whose function byte is not zero, None where there is
+/// none. Source: Principles of Operation, chapter on general instructions.
 #[tactic(auto, unfolding(esa_model::specs::Moves::hit_of))]
 pub fn translate_test(first: &[u8], functions: &[u8; 256]) -> Option<Hit>
     requires some { 1 ≤ length first.now }

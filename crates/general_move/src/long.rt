@@ -1,15 +1,18 @@
+//! The units of MVCL and CLCL.
+
 ghost use Rattle.std.specs.Prelude.{◌≡◌, ◌<◌, ◌≤◌, length, min};
 ghost use Rattle.esa_model.specs.LongMoves.{wrap, gap, length_code, move_row, padded_byte, places, first_byte, second_byte, same_places, unit_code, compare_row};
 
 use esa_model::long_operands::{CompareUnit, LongOperands, MoveUnit};
 
+/// One more than the last address of the mode.
 fn wrap_of(wide: bool) -> u32
     ensures { result ≡ wrap wide }
 {
-    if wide { 2147483648 } else { 16777216 }
+    if wide { 0x8000_0000 } else { 0x100_0000 }
 }
 
-// The first address less the second, modulo the wrap.
+/// The first address less the second, modulo the wrap.
 fn gap_of(m: &LongOperands) -> u32
     ensures { result ≡ gap m.now }
 {
@@ -17,6 +20,7 @@ fn gap_of(m: &LongOperands) -> u32
     (m.to % modulus + (modulus - m.from % modulus)) % modulus
 }
 
+/// 0 where the lengths are equal, 1 where the first is lower, 2 where it is higher.
 fn length_code_of(a: u32, b: u32) -> u8
     ensures { result ≡ length_code a b }
 {
@@ -29,8 +33,12 @@ fn length_code_of(a: u32, b: u32) -> u8
     }
 }
 
-/// One unit of MVCL: at most 256 bytes are stored, from the second operand as far as that goes and then pad bytes. A
-/// move is destructive where a byte of the second operand would be fetched after it was stored into; it stores nothing.
+/// One unit of MVCL: at most 256 bytes are stored, from the second operand as far as that goes and
+/// then pad bytes. A move is destructive where a byte of the second operand would be fetched after
+/// it was stored into; it stores nothing.
+///
+/// Source: Principles of Operation, chapter on general instructions; the size of a unit is a choice
+/// of this project.
 #[tactic(auto, unfolding(esa_model::specs::LongMoves::move_row))]
 pub fn move_unit(m: &LongOperands) -> MoveUnit
     ensures { result ≡ move_row m.now }
@@ -58,7 +66,7 @@ pub fn move_unit(m: &LongOperands) -> MoveUnit
     }
 }
 
-// The byte at a place of an operand of `len` bytes that pad bytes follow.
+/// The byte at a place of an operand of `len` bytes that pad bytes follow.
 fn byte_at(bytes: &[u8], len: u32, pad: u8, i: u32) -> u8
     requires bytes { min 256 len ≤ length bytes.now }
     requires place { i < 256 }
@@ -67,6 +75,7 @@ fn byte_at(bytes: &[u8], len: u32, pad: u8, i: u32) -> u8
     if i < len { bytes[i as usize] } else { pad }
 }
 
+/// How many places a unit compares.
 fn places_of(c: &LongOperands) -> u32
     ensures value { result ≡ places c.now }
     ensures few { result ≤ 256 }
@@ -74,7 +83,7 @@ fn places_of(c: &LongOperands) -> u32
     c.to_len.max(c.from_len).min(256)
 }
 
-// The number of equal places before the first unequal one. All places of the unit are looked at.
+/// The number of equal places before the first unequal one. All places of the unit are looked at.
 fn same_until(first: &[u8], second: &[u8], c: &LongOperands) -> u32
     requires first { min 256 c.now.to_len ≤ length first.now }
     requires second { min 256 c.now.from_len ≤ length second.now }
@@ -94,11 +103,13 @@ fn same_until(first: &[u8], second: &[u8], c: &LongOperands) -> u32
     same
 }
 
-// The condition code, where this many places are equal before the first unequal one.
+/// The condition code, where this many places are equal before the first unequal one.
 fn code_after(first: &[u8], second: &[u8], same: u32, c: &LongOperands) -> Option<u8>
     requires first { min 256 c.now.to_len ≤ length first.now }
     requires second { min 256 c.now.from_len ≤ length second.now }
-    ensures { result ≡ unit_code same (first_byte first.now c.now same) (second_byte second.now c.now same) c.now }
+    ensures { let x = first_byte first.now c.now same in
+        let y = second_byte second.now c.now same in
+        result ≡ unit_code same x y c.now }
 {
     if same < places_of(c) {
         let x = byte_at(first, c.to_len, c.pad, same);
@@ -111,7 +122,11 @@ fn code_after(first: &[u8], second: &[u8], same: u32, c: &LongOperands) -> Optio
     }
 }
 
-/// One unit of CLCL: at most 256 places are compared, each operand followed by pad bytes as far as the longer one goes.
+/// One unit of CLCL: at most 256 places are compared, each operand followed by pad bytes as far as
+/// the longer one goes.
+///
+/// Source: Principles of Operation, chapter on general instructions; the size of a unit is a choice
+/// of this project.
 #[tactic(auto, unfolding(esa_model::specs::LongMoves::compare_row))]
 pub fn compare_unit(first: &[u8], second: &[u8], c: &LongOperands) -> CompareUnit
     requires first { min 256 c.now.to_len ≤ length first.now }

@@ -5,27 +5,54 @@ use crate::{
     CompareUnit, Hit, LongOperands, MoveUnit, compare_unit, logical, move_unit, overlapped,
     translate_test,
 };
+use esa_model::codes::STAYS;
+
+const MVN: u8 = 0xD1;
+
+const MVC: u8 = 0xD2;
+
+const MVZ: u8 = 0xD3;
+
+const NC: u8 = 0xD4;
+
+const CLC: u8 = 0xD5;
+
+const OC: u8 = 0xD6;
+
+const XC: u8 = 0xD7;
 
 fn is_row(op: u8) -> bool
     ensures { result ≡ is_logical op }
 {
-    matches!(op, 0xD1..=0xD7)
+    matches!(op, MVN..=XC)
+}
+
+// MVN of X'12' from X'A5' gives X'15', MVZ X'A2'; the condition code stays.
+#[test]
+fn low_and_high_halves_are_moved(rt: HostRuntime) {
+    for (op, after) in [
+        (MVN, [0x15, 0x36]),
+        (MVC, [0xA5, 0xC6]),
+        (MVZ, [0xA2, 0xC4]),
+    ] {
+        assert!(rt; is_row(op));
+        let mut first = [0x12, 0x34];
+        assert_eq!(rt; logical(op, &mut first, &[0xA5, 0xC6]), STAYS, "row {op}");
+        assert!(rt; first == after, "row {op}");
+    }
 }
 
 #[test]
-fn operands_apart(rt: HostRuntime) {
+fn code_is_of_all_bytes(rt: HostRuntime) {
     let cases = [
-        (0xD1, [0x12, 0x34], [0xA5, 0xC6], [0x15, 0x36], 4),
-        (0xD2, [0x12, 0x34], [0xA5, 0xC6], [0xA5, 0xC6], 4),
-        (0xD3, [0x12, 0x34], [0xA5, 0xC6], [0xA2, 0xC4], 4),
-        (0xD4, [0xF0, 0x0F], [0x0F, 0x0F], [0x00, 0x0F], 1),
-        (0xD4, [0x0F, 0xF0], [0x0F, 0x0F], [0x0F, 0x00], 1),
-        (0xD4, [0xF0, 0xF0], [0x0F, 0x0F], [0x00, 0x00], 0),
-        (0xD6, [0xF0, 0x00], [0x0F, 0x00], [0xFF, 0x00], 1),
-        (0xD7, [0xA5, 0xC6], [0xA5, 0xC6], [0x00, 0x00], 0),
-        (0xD5, [0x12, 0x34], [0x12, 0x34], [0x12, 0x34], 0),
-        (0xD5, [0x12, 0x34], [0x13, 0x00], [0x12, 0x34], 1),
-        (0xD5, [0x12, 0x34], [0x12, 0x33], [0x12, 0x34], 2),
+        (NC, [0xF0, 0x0F], [0x0F, 0x0F], [0x00, 0x0F], 1),
+        (NC, [0x0F, 0xF0], [0x0F, 0x0F], [0x0F, 0x00], 1),
+        (NC, [0xF0, 0xF0], [0x0F, 0x0F], [0x00, 0x00], 0),
+        (OC, [0xF0, 0x00], [0x0F, 0x00], [0xFF, 0x00], 1),
+        (XC, [0xA5, 0xC6], [0xA5, 0xC6], [0x00, 0x00], 0),
+        (CLC, [0x12, 0x34], [0x12, 0x34], [0x12, 0x34], 0),
+        (CLC, [0x12, 0x34], [0x13, 0x00], [0x12, 0x34], 1),
+        (CLC, [0x12, 0x34], [0x12, 0x33], [0x12, 0x34], 2),
     ];
     for (op, before, second, after, code) in cases {
         assert!(rt; is_row(op));
@@ -35,42 +62,53 @@ fn operands_apart(rt: HostRuntime) {
     }
 }
 
-// The first `count` bytes are `of`, the others zero.
+/// Whether the first `count` bytes are `of` and the others zero.
 fn begins_with(area: &[u8], of: u8, count: usize) -> bool {
     area.iter()
         .enumerate()
         .all(|(k, b)| *b == if k < count { of } else { 0 })
 }
 
+// MVC one place to the right fills the area with its first byte, one place to the left it moves it.
 #[test]
-fn operands_in_one_area(rt: HostRuntime) {
-    for len in [1, 2, 255, 256] {
-        assert!(rt; 1 <= len);
+fn propagation(rt: HostRuntime) {
+    for len in [0, 1, 2, 255, 256] {
         assert!(rt; len <= 256);
         let mut right = [0; 258];
         right[0] = 0x5B;
-        assert_eq!(rt; overlapped(0xD2, &mut right, 1, 0, len), 4, "length {len}");
+        assert_eq!(rt;
+            overlapped(MVC, &mut right, 1, 0, len),
+            STAYS,
+            "length {len}"
+        );
         assert!(rt;
             begins_with(&right, 0x5B, len + 1),
             "to the right, length {len}"
         );
-        assert_eq!(rt; overlapped(0xD4, &mut right, 0, 0, len), 1, "length {len}");
-        assert_eq!(rt; overlapped(0xD7, &mut right, 0, 0, len), 0, "length {len}");
-        assert!(rt; begins_with(&right[..len], 0, len), "cleared, length {len}");
-        assert_eq!(rt; right[len], 0x5B, "length {len}");
         let mut left = [0; 258];
         left[len] = 0x5B;
-        assert_eq!(rt; overlapped(0xD2, &mut left, 0, 1, len), 4, "length {len}");
         assert_eq!(rt;
-            left.iter().position(|b| *b != 0),
-            Some(len - 1),
-            "to the left, length {len}"
+            overlapped(MVC, &mut left, 0, 1, len),
+            STAYS,
+            "length {len}"
         );
+        let place = left.iter().position(|b| *b != 0);
+        assert_eq!(rt; place, Some(len.max(1) - 1), "to the left, length {len}");
     }
 }
 
+// NC of an area with itself leaves it, XC clears it.
 #[test]
-fn functions_looked_up(rt: HostRuntime) {
+fn area_is_cleared_by_itself(rt: HostRuntime) {
+    let mut area = [0x5B; 258];
+    assert_eq!(rt; overlapped(NC, &mut area, 0, 0, 257), 1);
+    assert!(rt; begins_with(&area, 0x5B, 258));
+    assert_eq!(rt; overlapped(XC, &mut area, 0, 0, 257), 0);
+    assert_eq!(rt; area.iter().position(|b| *b != 0), Some(257));
+}
+
+#[test]
+fn first_function_byte_is_hit(rt: HostRuntime) {
     let mut functions = [0; 256];
     functions[7] = 9;
     let cases = [
@@ -103,8 +141,9 @@ fn unit(copied: u16, padded: u16, cc: Option<u8>) -> MoveUnit {
     }
 }
 
+// Each case has the first address and length, then the second's, and what the unit does.
 #[test]
-fn units_of_long_moves(rt: HostRuntime) {
+fn pad_follows_the_second_operand(rt: HostRuntime) {
     let destructive = MoveUnit {
         copied: 0,
         padded: 0,
@@ -139,7 +178,7 @@ fn units_of_long_moves(rt: HostRuntime) {
 }
 
 #[test]
-fn units_of_long_comparisons(rt: HostRuntime) {
+fn unequal_place_ends_the_comparison(rt: HostRuntime) {
     let same = [0x40; 256];
     let mut first = same;
     first[0] = 0x41;

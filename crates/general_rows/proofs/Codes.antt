@@ -145,18 +145,155 @@ chosen : (c : Bool) (v w : Value) → v.cc < 5 → w.cc < 5 → (if c then v els
 chosen true v w h g = h
 chosen false v w h g = g
 
-look_small : (op : ℕ) (rows : List (ℕ × (ℕ → ℕ → ℕ → Value))) (a low b : ℕ) → AreSmall rows a low b → (look op rows a low b).cc < 5
+look_small : (op : ℕ) (rows : List (ℕ × (ℕ → ℕ → ℕ → Value))) (a low b : ℕ) → AreSmall rows a low b
+    → (look op rows a low b).cc < 5
 look_small op [] a low b h = omega arith
-look_small op (row ∷ rows) a low b h = chosen (row.0 == op) (row.1 a low b) (look op rows a low b) h.0 (look_small op rows a low b h.1)
+look_small op (row ∷ rows) a low b h =
+    chosen (row.0 == op) (row.1 a low b) (look op rows a low b) h.0 (look_small op rows a low b h.1)
 
 pub rr_small : (op a low b : ℕ) → (rr_row op a low b).cc < 5
 unfolding rr_row
-rr_small op a low b = look_small op rr_rows a low b (load_positive_small b, (load_negative_small b, (load_and_test_small b, (load_complement_small b, (and_small a b, (compare_logical_small a b, (or_small a b, (exclusive_or_small a b, (load_small b, (compare_small a b, (add_small a b, (subtract_small a b, (multiply_small low b, (divide_small a low b, (add_logical_small a b, (subtract_logical_small a b, (and_small a b, (compare_logical_small a b, (or_small a b, (exclusive_or_small a b, (load_small b, (compare_small a b, (add_small a b, (subtract_small a b, (multiply_small low b, (divide_small a low b, (add_logical_small a b, (subtract_logical_small a b, (multiply_single_small a b, tt)))))))))))))))))))))))))))))
+rr_small op a low b =
+    look_small op rr_rows a low b (
+      load_positive_small b,
+      (
+        load_negative_small b,
+        (
+          load_and_test_small b,
+          (
+            load_complement_small b,
+            (
+              and_small a b,
+              (
+                compare_logical_small a b,
+                (
+                  or_small a b,
+                  (
+                    exclusive_or_small a b,
+                    (
+                      load_small b,
+                      (
+                        compare_small a b,
+                        (
+                          add_small a b,
+                          (
+                            subtract_small a b,
+                            (
+                              multiply_small low b,
+                              (
+                                divide_small a low b,
+                                (
+                                  add_logical_small a b,
+                                  (
+                                    subtract_logical_small a b,
+                                    (
+                                      and_small a b,
+                                      (
+                                        compare_logical_small a b,
+                                        (
+                                          or_small a b,
+                                          (
+                                            exclusive_or_small a b,
+                                            (
+                                              load_small b,
+                                              (
+                                                compare_small a b,
+                                                (
+                                                  add_small a b,
+                                                  (
+                                                    subtract_small a b,
+                                                    (
+                                                      multiply_small low b,
+                                                      (
+                                                        divide_small a low b,
+                                                        (
+                                                          add_logical_small a b,
+                                                          (
+                                                            subtract_logical_small a b,
+                                                            (
+                                                              multiply_single_small a b,
+                                                              tt,
+                                                            ),
+                                                          ),
+                                                        ),
+                                                      ),
+                                                    ),
+                                                  ),
+                                                ),
+                                              ),
+                                            ),
+                                          ),
+                                        ),
+                                      ),
+                                    ),
+                                  ),
+                                ),
+                              ),
+                            ),
+                          ),
+                        ),
+                      ),
+                    ),
+                  ),
+                ),
+              ),
+            ),
+          ),
+        ),
+      ),
+    )
 
 pub half_small : (op a b : ℕ) → (half_row op a b).cc < 5
 unfolding half_row
-half_small op a b = look_small op half_rows a 0 b (load_half_small b, (compare_half_small a b, (add_half_small a b, (subtract_half_small a b, (multiply_half_small a b, (test_high_small a b, (test_low_small a b, tt)))))))
+half_small op a b =
+    look_small op half_rows a 0 b (
+      load_half_small b,
+      (
+        compare_half_small a b,
+        (
+          add_half_small a b,
+          (
+            subtract_half_small a b,
+            (
+              multiply_half_small a b,
+              (
+                test_high_small a b,
+                (
+                  test_low_small a b,
+                  tt,
+                ),
+              ),
+            ),
+          ),
+        ),
+      ),
+    )
 
 pub shift_small : (op a low n : ℕ) → (shift_row op a low n).cc < 5
 unfolding shift_row
-shift_small op a low n = look_small op shift_rows a low n (shift_right_logical_small a n, (shift_left_logical_small a n, (shift_right_small a n, (shift_left_small a n, (shift_right_double_logical_small a low n, (shift_left_double_logical_small a low n, (shift_right_double_small a low n, (shift_left_double_small a low n, tt))))))))
+shift_small op a low n =
+    look_small op shift_rows a low n (
+      shift_right_logical_small a n,
+      (
+        shift_left_logical_small a n,
+        (
+          shift_right_small a n,
+          (
+            shift_left_small a n,
+            (
+              shift_right_double_logical_small a low n,
+              (
+                shift_left_double_logical_small a low n,
+                (
+                  shift_right_double_small a low n,
+                  (
+                    shift_left_double_small a low n,
+                    tt,
+                  ),
+                ),
+              ),
+            ),
+          ),
+        ),
+      ),
+    )

@@ -1,3 +1,5 @@
 pub mod Codes
+pub mod Opcodes
+pub mod Always
 pub mod Selected
-pub mod Multiple
+pub mod Successive

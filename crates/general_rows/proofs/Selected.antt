@@ -27,17 +27,22 @@ pub places_all : (mask : ℕ) → places_below mask 4 ≡ places mask
 unfolding places_below
 places_all mask = refl
 
-pub places_more : (mask n : ℕ) → places_below mask (n + 1) ≡ places_below mask n ++ (if mask / 2 ^ (3 - n) % 2 == 1 then n ∷ [] else [])
+pub places_more : (mask n : ℕ)
+    → places_below mask (n + 1)
+    ≡ places_below mask n ++ (if mask / 2 ^ (3 - n) % 2 == 1 then n ∷ [] else [])
 unfolding places_below
 places_more mask n =
     let e : 0 + n ≡ n = omega arith in
-    ap (filter (selects mask)) (range_more 0 n ∙ ap (λ (k : ℕ). range_with_len 0 n ++ (k ∷ [])) e) ∙ filter-append (selects mask) (range_with_len 0 n) (n ∷ [])
+    let more = range_more 0 n ∙ ap (λ (k : ℕ). range_with_len 0 n ++ (k ∷ [])) e in
+    ap (filter (selects mask)) more ∙ filter-append (selects mask) (range_with_len 0 n) (n ∷ [])
 
 -- a place after the last counts as the last
 pub unit_last : (k : ℕ) → 2 < k → 256 ^ (3 - k) ≡ 1
 unit_last k h = let e : 3 - k ≡ 0 = omega (arith, h) in rw e refl
 
-pub code_by : (bs : List ℕ) → inserted_code bs ≡ (if list_all is_zero bs then 0 else if nat_lt (slice_index bs 0) 128 then 2 else 1)
+pub code_by : (bs : List ℕ)
+    → inserted_code bs
+    ≡ (if list_all is_zero bs then 0 else if nat_lt (slice_index bs 0) 128 then 2 else 1)
 code_by [] = refl
 code_by (b ∷ bs) = refl
 

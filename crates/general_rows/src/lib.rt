@@ -2,13 +2,14 @@
 #![tactic(auto)]
 
 pub mod branches;
+mod characters;
+mod lists;
 mod masks;
-mod one_operand;
-mod registers;
+mod multiple;
+mod single_bytes;
 pub mod stores;
 mod swaps;
 #[cfg(test)]
 mod tests;
 mod values;
-mod word_names;
 pub mod words;

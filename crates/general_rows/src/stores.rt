@@ -1,42 +1,93 @@
-// The rows of one operand in storage: stores, multiple loads, bytes under a mask, immediate bytes, compare and swap.
+// The rows of one operand in storage: stores, multiple loads, bytes under a mask, immediate bytes,
+// compare and swap.
 // Source: Principles of Operation, chapter on general instructions.
-ghost use Rattle.std.specs.Prelude.{◌≡◌, ◌≤◌, true, IsTrue};
+ghost use Rattle.std.specs.Prelude.{◌≡◌, ◌≤◌, true, IsTrue, []};
 ghost use Rattle.esa_model.specs.Access.{whole as whole_of};
-ghost use Rattle.esa_model.specs.Line.{lists, one as one_of};
-ghost use Rattle.esa_model.specs.Rows.Stores.{opcodes, stores_line};
+ghost use Rattle.esa_model.specs.Line.{one as one_of};
+ghost use Rattle.esa_model.specs.Rows.Stores.{has_store, store_line, stores_line};
+ghost use Rattle.general_rows.specs.Classes.{stores_effect, stores_operands, stores_order};
 ghost use Rattle.row_frame.specs.Made.{inputs, IsInRange, Fits, Covers, IsQuiet};
 
+use crate::characters::{compare_masked, insert_character, insert_masked, store_masked};
+use crate::lists::{half_bytes, one_byte, word_bytes};
 use crate::masks::{masked_count, selected_count};
-use crate::one_operand::*;
-use crate::registers::{count_of, count_stored};
+use crate::multiple::{count_of, load_multiple, store_multiple};
+use crate::single_bytes::{
+    combine_immediate, compare_immediate, move_immediate, test_and_set, test_mask,
+};
 use crate::swaps::{pair_swap, pair_swap_operands, swap, swap_operands};
 use abs_storage::View;
-use esa_model::machine::{CpuNo, Registers};
+use esa_model::kinds::StoreKind;
+use esa_model::machine::Registers;
 use operand_access::{Operands, whole};
-use result_packet::Side;
-use row_frame::{Effect, Instruction, first_of, indexed_of, one, second_of};
+use row_frame::{
+    Effect, Instruction, after, first_of, general_of, indexed_of, one, second_of, store,
+};
+
+/// STORE CHARACTER: the last byte of R1.
+fn store_character(r: &Registers, i: &Instruction) -> Effect
+    requires { IsInRange i.now.decoded }
+    ensures effect { result ≡ (store_line 1).effect (inputs r.now [] i.now) }
+    ensures covers { Covers ((store_line 1).operands (inputs r.now [] i.now)) result }
+    ensures quiet { IsQuiet result }
+{
+    let byte = (general_of(r, i.decoded.r1) % 0x100) as u8;
+    store(after(r, i.len), one_byte(byte))
+}
+
+/// STORE HALFWORD: the right half of R1.
+fn store_halfword(r: &Registers, i: &Instruction) -> Effect
+    requires { IsInRange i.now.decoded }
+    ensures effect { result ≡ (store_line 2).effect (inputs r.now [] i.now) }
+    ensures covers { Covers ((store_line 2).operands (inputs r.now [] i.now)) result }
+    ensures quiet { IsQuiet result }
+{
+    let half = (general_of(r, i.decoded.r1) % 0x1_0000) as u16;
+    store(after(r, i.len), half_bytes(half))
+}
+
+/// STORE: R1.
+fn store_word(r: &Registers, i: &Instruction) -> Effect
+    requires { IsInRange i.now.decoded }
+    ensures effect { result ≡ (store_line 4).effect (inputs r.now [] i.now) }
+    ensures covers { Covers ((store_line 4).operands (inputs r.now [] i.now)) result }
+    ensures quiet { IsQuiet result }
+{
+    store(after(r, i.len), word_bytes(general_of(r, i.decoded.r1)))
+}
 
 /// Whether the alignment and the register numbers of a row are in order.
 #[tactic(auto, unfolding(esa_model::specs::Rows::Stores::stores_line))]
 pub fn in_order<V: View>(
+    kind: StoreKind,
     opcode: u16,
     r: &Registers,
-    cpu: CpuNo,
     view: &V,
-    side: &Side,
     i: &Instruction,
 ) -> bool
     requires fields { IsInRange i.now.decoded }
-    requires known { IsTrue (lists opcode opcodes) }
-    ensures { result ≡ (stores_line opcode).in_order (inputs r.now cpu.0 (V.bytes view.now) side.now i.now) }
+    requires known { IsTrue (has_store kind opcode) }
+    ensures { result ≡ stores_order kind opcode r.now (V.bytes view.now) i.now }
 {
     let d = &i.decoded;
-    match opcode {
-        0xBA => second_of(r, d) % 4 == 0,
-        0xBB => d.r1 % 2 == 0 && (d.r2 % 2 == 0 && second_of(r, d) % 8 == 0),
-        0x40 | 0x42 | 0x50 | 0x90 | 0x98 | 0x43 | 0xBF | 0xBD | 0xBE => true,
-        0x91 | 0x92 | 0x94 | 0x96 | 0x97 | 0x95 | 0x93 => true,
-        _ => unreachable!(),
+    match kind {
+        StoreKind::CompareAndSwap => second_of(r, d) % 4 == 0,
+        StoreKind::CompareDoubleAndSwap => d.r1 % 2 == 0
+            && (d.r2 % 2 == 0 && second_of(r, d) % 8 == 0),
+        StoreKind::Character
+        | StoreKind::Halfword
+        | StoreKind::Word
+        | StoreKind::StoreMultiple
+        | StoreKind::LoadMultiple
+        | StoreKind::InsertCharacter
+        | StoreKind::InsertUnderMask
+        | StoreKind::CompareUnderMask
+        | StoreKind::StoreUnderMask
+        | StoreKind::TestUnderMask
+        | StoreKind::MoveImmediate
+        | StoreKind::CombineImmediate
+        | StoreKind::CompareImmediate
+        | StoreKind::TestAndSet => true,
     }
 }
 
@@ -52,71 +103,88 @@ fn operand(at: u32, len: u32, fetch: bool, store: bool) -> Operands
 /// The operands of a row. The storage is read where an operand is fetched as the data has it.
 #[tactic(auto, unfolding(esa_model::specs::Rows::Stores::stores_line))]
 pub fn operands<V: View>(
+    kind: StoreKind,
     opcode: u16,
     r: &Registers,
-    cpu: CpuNo,
     view: &mut V,
-    side: &Side,
     i: &Instruction,
 ) -> Operands
     requires fields { IsInRange i.now.decoded }
-    requires known { IsTrue (lists opcode opcodes) }
-    requires order { (stores_line opcode).in_order (inputs r.now cpu.0 (V.bytes view.old) side.now i.now) ≡ true }
-    ensures operands { result ≡ (stores_line opcode).operands (inputs r.now cpu.0 (V.bytes view.old) side.now i.now) }
+    requires known { IsTrue (has_store kind opcode) }
+    requires order { stores_order kind opcode r.now (V.bytes view.old) i.now ≡ true }
+    ensures operands { result ≡ stores_operands kind opcode r.now (V.bytes view.old) i.now }
     ensures fits { Fits result }
     ensures same { V.bytes view.new ≡ V.bytes view.old }
 {
     let d = &i.decoded;
-    match opcode {
-        0x40 | 0x42 | 0x50 => operand(indexed_of(r, d), count_stored(opcode), false, true),
-        0x90 => operand(second_of(r, d), 4 * count_of(d) as u32, false, true),
-        0x98 => operand(second_of(r, d), 4 * count_of(d) as u32, true, false),
-        0x43 => operand(indexed_of(r, d), 1, true, false),
-        0xBF | 0xBD => operand(second_of(r, d), masked_count(d.r2), true, false),
-        0xBE => operand(second_of(r, d), selected_count(d.r2), false, true),
-        0x91 | 0x95 => operand(first_of(r, d), 1, true, false),
-        0x92 => operand(first_of(r, d), 1, false, true),
-        0x94 | 0x96 | 0x97 => operand(first_of(r, d), 1, true, true),
-        0x93 => operand(second_of(r, d), 1, true, true),
-        0xBA => swap_operands(r, view, d),
-        0xBB => pair_swap_operands(r, view, d),
-        _ => unreachable!(),
+    match kind {
+        StoreKind::Character => operand(indexed_of(r, d), 1, false, true),
+        StoreKind::Halfword => operand(indexed_of(r, d), 2, false, true),
+        StoreKind::Word => operand(indexed_of(r, d), 4, false, true),
+        StoreKind::StoreMultiple => operand(
+            second_of(r, d),
+            4 * u32::from(count_of(d)),
+            false,
+            true,
+        ),
+        StoreKind::LoadMultiple => operand(
+            second_of(r, d),
+            4 * u32::from(count_of(d)),
+            true,
+            false,
+        ),
+        StoreKind::InsertCharacter => operand(indexed_of(r, d), 1, true, false),
+        StoreKind::InsertUnderMask | StoreKind::CompareUnderMask => {
+            operand(second_of(r, d), masked_count(d.r2), true, false)
+        }
+        StoreKind::StoreUnderMask => operand(second_of(r, d), selected_count(d.r2), false, true),
+        StoreKind::TestUnderMask | StoreKind::CompareImmediate => operand(
+            first_of(r, d),
+            1,
+            true,
+            false,
+        ),
+        StoreKind::MoveImmediate => operand(first_of(r, d), 1, false, true),
+        StoreKind::CombineImmediate => operand(first_of(r, d), 1, true, true),
+        StoreKind::TestAndSet => operand(second_of(r, d), 1, true, true),
+        StoreKind::CompareAndSwap => swap_operands(r, view, i),
+        StoreKind::CompareDoubleAndSwap => pair_swap_operands(r, view, i),
     }
 }
 
 /// What a row does.
-#[tactic(auto, unfolding(esa_model::specs::Rows::Stores::stores_line))]
+#[tactic(auto, unfolding(esa_model::specs::Rows::Stores::stores_line, esa_model::specs::Rows::Stores::has_store))]
 pub fn effect_of<V: View>(
+    kind: StoreKind,
     opcode: u16,
     r: &Registers,
-    cpu: CpuNo,
     view: &mut V,
-    side: &Side,
     i: &Instruction,
 ) -> Effect
     requires fields { IsInRange i.now.decoded }
-    requires known { IsTrue (lists opcode opcodes) }
-    requires order { (stores_line opcode).in_order (inputs r.now cpu.0 (V.bytes view.old) side.now i.now) ≡ true }
-    ensures effect { result ≡ (stores_line opcode).effect (inputs r.now cpu.0 (V.bytes view.old) side.now i.now) }
-    ensures covers { Covers ((stores_line opcode).operands (inputs r.now cpu.0 (V.bytes view.old) side.now i.now)) result }
+    requires known { IsTrue (has_store kind opcode) }
+    requires order { stores_order kind opcode r.now (V.bytes view.old) i.now ≡ true }
+    ensures effect { result ≡ stores_effect kind opcode r.now (V.bytes view.old) i.now }
+    ensures covers { Covers (stores_operands kind opcode r.now (V.bytes view.old) i.now) result }
     ensures quiet { IsQuiet result }
     ensures same { V.bytes view.new ≡ V.bytes view.old }
 {
-    match opcode {
-        0x40 | 0x42 | 0x50 => store_register(opcode, r, i),
-        0x90 => store_multiple(r, i),
-        0x98 => load_multiple(r, view, i),
-        0x43 => insert_character(r, view, i),
-        0xBF => insert_masked(r, view, i),
-        0xBD => compare_masked(r, view, i),
-        0xBE => store_masked(r, i),
-        0x91 => test_mask(r, view, i),
-        0x92 => move_immediate(r, i),
-        0x94 | 0x96 | 0x97 => combine_immediate(opcode, r, view, i),
-        0x95 => compare_immediate(r, view, i),
-        0x93 => test_and_set(r, view, i),
-        0xBA => swap(r, view, i),
-        0xBB => pair_swap(r, view, i),
-        _ => unreachable!(),
+    match kind {
+        StoreKind::Character => store_character(r, i),
+        StoreKind::Halfword => store_halfword(r, i),
+        StoreKind::Word => store_word(r, i),
+        StoreKind::StoreMultiple => store_multiple(r, i),
+        StoreKind::LoadMultiple => load_multiple(r, view, i),
+        StoreKind::InsertCharacter => insert_character(r, view, i),
+        StoreKind::InsertUnderMask => insert_masked(r, view, i),
+        StoreKind::CompareUnderMask => compare_masked(r, view, i),
+        StoreKind::StoreUnderMask => store_masked(r, i),
+        StoreKind::TestUnderMask => test_mask(r, view, i),
+        StoreKind::MoveImmediate => move_immediate(r, i),
+        StoreKind::CombineImmediate => combine_immediate(opcode, r, view, i),
+        StoreKind::CompareImmediate => compare_immediate(r, view, i),
+        StoreKind::TestAndSet => test_and_set(r, view, i),
+        StoreKind::CompareAndSwap => swap(r, view, i),
+        StoreKind::CompareDoubleAndSwap => pair_swap(r, view, i),
     }
 }

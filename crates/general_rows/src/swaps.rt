@@ -1,13 +1,13 @@
-// CS and CDS: they store where the operand is the first register or pair, and fetch where it is not.
+// CS and CDS: they store where the operand is the first register or pair, and fetch where it is
+// not.
 // Source: Principles of Operation, chapter on general instructions.
-ghost use Rattle.std.specs.Prelude.{◌≡◌, ◌+◌, ◌≤◌, ◌<◌, ◌==◌, ◌++◌, [], if◌then◌else◌, length, not, true};
-ghost use Rattle.byteorder.specs.Endian.{big_bytes};
-ghost use Rattle.esa_model.specs.Access.{whole as whole_of};
-ghost use Rattle.esa_model.specs.Line.{general, leaves, one as one_of, second_at, stores, with_pair, with_value, word_at};
+ghost use Rattle.std.specs.Prelude.{◌≡◌, ◌+◌, ◌≤◌, ◌<◌, [], length};
+ghost use Rattle.esa_model.specs.Line.{with_pair, with_value};
 ghost use Rattle.esa_model.specs.MaskRows.{compare_and_swap_row, compare_double_and_swap_row};
-ghost use Rattle.row_frame.specs.Made.{IsInRange, Fits, IsQuiet};
+ghost use Rattle.esa_model.specs.Rows.Stores.{compare_and_swap as swap_line, compare_double_and_swap as pair_line, pair_swap_value, swap_value};
+ghost use Rattle.row_frame.specs.Made.{inputs, IsInRange, Fits, IsQuiet};
 
-use crate::registers::{pair_bytes, word_bytes};
+use crate::lists::{pair_bytes, word_bytes};
 use abs_storage::View;
 use esa_model::instructions::Decoded;
 use esa_model::machine::{Registers, Value};
@@ -45,24 +45,26 @@ fn pair_compared(a: u32, low: u32, b: u32, b_low: u32) -> Value
 }
 
 /// The value of CS over the storage.
-fn swap_value_of<V: View>(r: &Registers, view: &mut V, d: &Decoded) -> Value
-    requires { IsInRange d.now }
-    ensures value { result ≡ compare_and_swap_row (general r.now d.now.r1) (word_at r.now (V.bytes view.old) (second_at r.now d.now)) }
+fn swap_value_of<V: View>(r: &Registers, view: &mut V, i: &Instruction) -> Value
+    requires { IsInRange i.now.decoded }
+    ensures value { result ≡ swap_value (inputs r.now (V.bytes view.old) i.now) }
     ensures code { result.cc < 2 }
     ensures same { V.bytes view.new ≡ V.bytes view.old }
 {
+    let d = &i.decoded;
     let word = word_of(r, view, second_of(r, d));
     compared(general_of(r, d.r1), word)
 }
 
 /// The value of CDS over the storage.
-fn pair_swap_value_of<V: View>(r: &Registers, view: &mut V, d: &Decoded) -> Value
-    requires fields { IsInRange d.now }
-    requires even { d.now.r1 + 1 < 16 }
-    ensures value { result ≡ compare_double_and_swap_row (general r.now d.now.r1) (general r.now (d.now.r1 + 1)) (word_at r.now (V.bytes view.old) (second_at r.now d.now)) (word_at r.now (V.bytes view.old) (second_at r.now d.now + 4)) }
+fn pair_swap_value_of<V: View>(r: &Registers, view: &mut V, i: &Instruction) -> Value
+    requires fields { IsInRange i.now.decoded }
+    requires even { i.now.decoded.r1 + 1 < 16 }
+    ensures value { result ≡ pair_swap_value (inputs r.now (V.bytes view.old) i.now) }
     ensures code { result.cc < 2 }
     ensures same { V.bytes view.new ≡ V.bytes view.old }
 {
+    let d = &i.decoded;
     let at = second_of(r, d);
     let word = word_of(r, view, at);
     let low = word_of(r, view, at + 4);
@@ -77,7 +79,7 @@ fn put_value(r: &Registers, d: &Decoded, len: u8, v: &Value) -> Registers
     ensures { result ≡ with_value r.now d.now.r1 len v.now }
 {
     let mut out = after_coded(r, len, v.cc);
-    out.general[d.r1 as usize] = v.word;
+    out.general[usize::from(d.r1)] = v.word;
     out
 }
 
@@ -89,46 +91,45 @@ fn put_pair(r: &Registers, d: &Decoded, len: u8, v: &Value) -> Registers
     ensures { result ≡ with_pair r.now d.now.r1 len v.now }
 {
     let mut out = after_coded(r, len, v.cc);
-    out.general[d.r1 as usize] = v.word;
-    out.general[d.r1 as usize + 1] = v.low;
+    out.general[usize::from(d.r1)] = v.word;
+    out.general[usize::from(d.r1) + 1] = v.low;
     out
 }
 
 /// The operand of CS.
-pub(crate) fn swap_operands<V: View>(r: &Registers, view: &mut V, d: &Decoded) -> Operands
-    requires { IsInRange d.now }
-    ensures operands { result ≡ one_of (whole_of (second_at r.now d.now) 4 (not ((compare_and_swap_row (general r.now d.now.r1) (word_at r.now (V.bytes view.old) (second_at r.now d.now))).cc == 0)) true) }
+pub(crate) fn swap_operands<V: View>(r: &Registers, view: &mut V, i: &Instruction) -> Operands
+    requires { IsInRange i.now.decoded }
+    ensures operands { result ≡ swap_line.operands (inputs r.now (V.bytes view.old) i.now) }
     ensures fits { Fits result }
     ensures same { V.bytes view.new ≡ V.bytes view.old }
 {
-    let v = swap_value_of(r, view, d);
-    one(whole(second_of(r, d), 4, !(v.cc == 0), true))
+    let v = swap_value_of(r, view, i);
+    one(whole(second_of(r, &i.decoded), 4, v.cc != 0, true))
 }
 
 /// The operand of CDS.
-pub(crate) fn pair_swap_operands<V: View>(r: &Registers, view: &mut V, d: &Decoded) -> Operands
-    requires fields { IsInRange d.now }
-    requires even { d.now.r1 + 1 < 16 }
-    ensures operands { result ≡ one_of (whole_of (second_at r.now d.now) 8 (not ((compare_double_and_swap_row (general r.now d.now.r1) (general r.now (d.now.r1 + 1)) (word_at r.now (V.bytes view.old) (second_at r.now d.now)) (word_at r.now (V.bytes view.old) (second_at r.now d.now + 4))).cc == 0)) true) }
+pub(crate) fn pair_swap_operands<V: View>(r: &Registers, view: &mut V, i: &Instruction) -> Operands
+    requires fields { IsInRange i.now.decoded }
+    requires even { i.now.decoded.r1 + 1 < 16 }
+    ensures operands { result ≡ pair_line.operands (inputs r.now (V.bytes view.old) i.now) }
     ensures fits { Fits result }
     ensures same { V.bytes view.new ≡ V.bytes view.old }
 {
-    let v = pair_swap_value_of(r, view, d);
-    one(whole(second_of(r, d), 8, !(v.cc == 0), true))
+    let v = pair_swap_value_of(r, view, i);
+    one(whole(second_of(r, &i.decoded), 8, v.cc != 0, true))
 }
 
-/// CS.
+/// COMPARE AND SWAP.
 pub(crate) fn swap<V: View>(r: &Registers, view: &mut V, i: &Instruction) -> Effect
     requires { IsInRange i.now.decoded }
-    ensures effect { result ≡ (if (compare_and_swap_row (general r.now i.now.decoded.r1) (word_at r.now (V.bytes view.old) (second_at r.now i.now.decoded))).cc == 0 then stores (with_value r.now i.now.decoded.r1 i.now.len (compare_and_swap_row (general r.now i.now.decoded.r1) (word_at r.now (V.bytes view.old) (second_at r.now i.now.decoded)))) (big_bytes 4 (general r.now i.now.decoded.r2)) else leaves (with_value r.now i.now.decoded.r1 i.now.len (compare_and_swap_row (general r.now i.now.decoded.r1) (word_at r.now (V.bytes view.old) (second_at r.now i.now.decoded))))) }
+    ensures effect { result ≡ swap_line.effect (inputs r.now (V.bytes view.old) i.now) }
     ensures short { length result.stored ≤ 4 }
     ensures none { result.console_out ≡ [] }
-    ensures kind { result.kind < 3 }
     ensures quiet { IsQuiet result }
     ensures same { V.bytes view.new ≡ V.bytes view.old }
 {
     let d = &i.decoded;
-    let v = swap_value_of(r, view, d);
+    let v = swap_value_of(r, view, i);
     let registers = put_value(r, d, i.len, &v);
     if v.cc == 0 {
         store(registers, word_bytes(general_of(r, d.r2)))
@@ -137,26 +138,23 @@ pub(crate) fn swap<V: View>(r: &Registers, view: &mut V, i: &Instruction) -> Eff
     }
 }
 
-/// CDS.
+/// COMPARE DOUBLE AND SWAP.
 pub(crate) fn pair_swap<V: View>(r: &Registers, view: &mut V, i: &Instruction) -> Effect
     requires fields { IsInRange i.now.decoded }
     requires even { i.now.decoded.r1 + 1 < 16 }
     requires second { i.now.decoded.r2 + 1 < 16 }
-    ensures effect { result ≡ (if (compare_double_and_swap_row (general r.now i.now.decoded.r1) (general r.now (i.now.decoded.r1 + 1)) (word_at r.now (V.bytes view.old) (second_at r.now i.now.decoded)) (word_at r.now (V.bytes view.old) (second_at r.now i.now.decoded + 4))).cc == 0 then stores (with_pair r.now i.now.decoded.r1 i.now.len (compare_double_and_swap_row (general r.now i.now.decoded.r1) (general r.now (i.now.decoded.r1 + 1)) (word_at r.now (V.bytes view.old) (second_at r.now i.now.decoded)) (word_at r.now (V.bytes view.old) (second_at r.now i.now.decoded + 4)))) (big_bytes 4 (general r.now i.now.decoded.r2) ++ big_bytes 4 (general r.now (i.now.decoded.r2 + 1))) else leaves (with_pair r.now i.now.decoded.r1 i.now.len (compare_double_and_swap_row (general r.now i.now.decoded.r1) (general r.now (i.now.decoded.r1 + 1)) (word_at r.now (V.bytes view.old) (second_at r.now i.now.decoded)) (word_at r.now (V.bytes view.old) (second_at r.now i.now.decoded + 4))))) }
+    ensures effect { result ≡ pair_line.effect (inputs r.now (V.bytes view.old) i.now) }
     ensures short { length result.stored ≤ 8 }
     ensures none { result.console_out ≡ [] }
-    ensures kind { result.kind < 3 }
     ensures quiet { IsQuiet result }
     ensures same { V.bytes view.new ≡ V.bytes view.old }
 {
     let d = &i.decoded;
-    let v = pair_swap_value_of(r, view, d);
+    let v = pair_swap_value_of(r, view, i);
     let registers = put_pair(r, d, i.len, &v);
     if v.cc == 0 {
-        store(
-            registers,
-            pair_bytes(general_of(r, d.r2), general_of(r, d.r2 + 1)),
-        )
+        let bytes = pair_bytes(general_of(r, d.r2), general_of(r, d.r2 + 1));
+        store(registers, bytes)
     } else {
         leave(registers)
     }

@@ -49,8 +49,8 @@ fn note_within(r: &Registers, at: u32, offsets: &[u8], blocks: &mut ArrayVec<u16
     note_all(r, at, offsets, blocks);
 }
 
-/// Adds the blocks of an operand that is tested for fetching, each once, in the order of use. Its bytes
-/// lie in at most two blocks.
+/// Adds the blocks of an operand that is tested for fetching, each once, in the order of use. Its
+/// bytes lie in at most two blocks.
 #[tactic(auto, unfolding(esa_model::specs::Access::noted_of))]
 pub fn note_operand(r: &Registers, o: &Operand, blocks: &mut ArrayVec<u16, 8>)
     requires inside { IsInside r.now (2 ^ 24) o.now }

@@ -1,5 +1,6 @@
-ghost use Rattle.std.specs.Prelude.{◌≡◌, ◌≤◌, ◌<◌, ◌+◌, ◌^◌, ◌==◌, ℕ, List, length, get_or, if◌then◌else◌};
-ghost use Rattle.esa_model.specs.Access.{place, byte, bytes, written};
+ghost use Rattle.std.specs.Prelude.{◌≡◌, ◌≤◌, ◌<◌, ◌+◌, ◌^◌, length, if◌then◌else◌};
+ghost use Rattle.esa_model.specs.Access.{byte, bytes, written};
+ghost use Rattle.operand_access.specs.Seen.{IsLeft};
 
 use crate::{View, place_of};
 use esa_model::machine::Registers;
@@ -13,8 +14,8 @@ pub fn byte_at<V: View>(r: &Registers, view: &mut V, n: u64) -> u8
     view.byte(place_of(r, n)).unwrap_or(0)
 }
 
-/// Fills a slice with the bytes from an effective address on, each address wrapped by itself; a byte
-/// outside the storage is 0.
+/// Fills a slice with the bytes from an effective address on, each address wrapped by itself; a
+/// byte outside the storage is 0.
 #[tactic(auto, unfolding(esa_model::specs::Access::bytes))]
 pub fn gather<V: View>(r: &Registers, view: &mut V, at: u32, into: &mut [u8])
     requires { length into.old ≤ 256 }
@@ -29,7 +30,7 @@ pub fn gather<V: View>(r: &Registers, view: &mut V, at: u32, into: &mut [u8])
 /// What an absolute address holds after stores, from what it held before.
 pub fn overlaid(r: &Registers, at: u32, bytes: &[u8], a: u32, before: u8) -> u8
     requires { at + length bytes.now < 2 ^ 33 }
-    ensures { (storage : List ℕ) → a < length storage → get_or storage a 0 ≡ before → result ≡ get_or (written r.now at bytes.now storage) a 0 }
+    ensures { IsLeft r.now at bytes.now a before result }
 {
     let mut byte = before;
     for k in 0..bytes.len() {

@@ -3,15 +3,17 @@ ghost use Rattle.esa_model.specs.Word.{first_code};
 ghost use Rattle.esa_model.specs.Access.{codes, byte, whole as whole_of};
 ghost use Rattle.esa_model.specs.Table.{length_of};
 ghost use Rattle.esa_model.specs.Unit.{start_code, fetch_len, fetch_code, fetched};
-ghost use Rattle.operand_access.specs.Seen.{memory, IsInside};
-ghost use Rattle.operand_access.specs.Fetch.{length_known, fetched_count, front as front_of};
+ghost use Rattle.operand_access.specs.Seen.{memory};
+ghost use Rattle.operand_access.specs.Fetch.{length_known, known_bytes, counted_len, AreThere};
+ghost use Rattle.operand_access.specs.Fetch.{front as front_of};
 
 use crate::{View, byte_at, gather, operand_code, whole};
+use esa_model::codes::SPECIFICATION;
 use esa_model::machine::Registers;
 use storage_keys::Keys;
 
-/// An instruction as far as it was fetched: its bytes, zeros in place of those that were not; its length
-/// in bytes by the first halfword, or 0 where that was refused; and the program code, or 0.
+/// An instruction as far as it was fetched: its bytes, zeros in place of those that were not; its
+/// length in bytes by the first halfword, or 0 where that was refused; and the program code, or 0.
 #[derive(Clone, Copy, Debug, PartialEq, Eq)]
 pub struct Fetched {
     pub bytes: [u8; 6],
@@ -40,7 +42,7 @@ fn start_code_of<V: View>(r: &Registers, keys: &Keys, view: &V, at: u32) -> u8
     ensures { result ≡ start_code r.now (memory (V.bytes view.now) keys.now) at }
 {
     if at % 2 == 1 {
-        6
+        SPECIFICATION
     } else {
         operand_code(r, keys, view, &whole(at, 2, true, false))
     }
@@ -65,7 +67,7 @@ fn fetch_code_of<V: View>(r: &Registers, keys: &Keys, view: &V, at: u32, len: u8
     requires len { len ≡ fetch_len r.now (memory (V.bytes view.now) keys.now) at }
     requires short { len ≤ 6 }
     ensures code { result ≡ fetch_code r.now (memory (V.bytes view.now) keys.now) at }
-    ensures inside { result ≡ 0 → IsInside r.now (length (V.bytes view.now)) (whole_of at len true false) }
+    ensures inside { result ≡ 0 → AreThere r.now (V.bytes view.now) at len }
 {
     operand_code(r, keys, view, &whole(at, len as u32, true, false))
 }
@@ -90,18 +92,23 @@ fn count_of(fault: u8, len: u8) -> u8
     if fault == 0 { len } else { 2 }
 }
 
-/// The instruction at an effective address, fetched: an odd address is code 6; a byte outside the storage
-/// 5, one that is protected 4, first of the first halfword and then of the rest.
+/// The instruction at an effective address, fetched: an odd address is a specification exception, a
+/// byte outside the storage an addressing and one that is protected a protection exception, first
+/// of the first halfword and then of the rest. Source: Principles of Operation, chapter on program
+/// execution.
 #[tactic(auto, unfolding(esa_model::specs::Unit::fetch_code, esa_model::specs::Unit::fetch_len, esa_model::specs::Unit::fetched, crate::specs::Fetch::front, crate::specs::Fetch::length_known, crate::specs::Fetch::fetched_count))]
 pub fn instruction<V: View>(r: &Registers, keys: &Keys, view: &mut V, at: u32) -> Fetched
     ensures fault { result.fault ≡ fetch_code r.now (memory (V.bytes view.old) keys.now) at }
     ensures len { result.len ≡ length_known r.now (memory (V.bytes view.old) keys.now) at }
-    ensures bytes { result.bytes ≡ front_of r.now (V.bytes view.old) at (fetched_count r.now (memory (V.bytes view.old) keys.now) at) }
+    ensures bytes { result.bytes ≡ known_bytes r.now (memory (V.bytes view.old) keys.now) at }
     ensures short { result.len ≤ 6 }
-    ensures inside { result.fault ≡ 0 → IsInside r.now (length (V.bytes view.old)) (whole_of at result.len true false) }
-    ensures refused { (if result.len == 0 then 2 else result.len) ≡ fetch_len r.now (memory (V.bytes view.old) keys.now) at }
-    ensures whole { result.fault ≡ 0 → result.bytes ≡ fetched r.now (memory (V.bytes view.old) keys.now) at }
-    ensures known { result.fault ≡ 0 → result.len ≡ fetch_len r.now (memory (V.bytes view.old) keys.now) at }
+    ensures inside { result.fault ≡ 0 → AreThere r.now (V.bytes view.old) at result.len }
+    ensures refused { counted_len result.len
+        ≡ fetch_len r.now (memory (V.bytes view.old) keys.now) at }
+    ensures whole { result.fault ≡ 0
+        → result.bytes ≡ fetched r.now (memory (V.bytes view.old) keys.now) at }
+    ensures known { result.fault ≡ 0
+        → result.len ≡ fetch_len r.now (memory (V.bytes view.old) keys.now) at }
     ensures same { V.bytes view.new ≡ V.bytes view.old }
 {
     let start = start_code_of(r, keys, view, at);

@@ -1,5 +1,5 @@
-//! Operands in storage: their addresses, whether their bytes may be accessed, these bytes, and the blocks
-//! in which they lie.
+//! Operands in storage: their addresses, whether their bytes may be accessed, these bytes, and the
+//! blocks in which they lie.
 #![tactic(auto)]
 
 mod addresses;
@@ -10,7 +10,7 @@ mod operands;
 mod protection;
 
 pub use abs_storage::View;
-pub use addresses::{effective, place_of, relative, wrap};
+pub use addresses::{effective, place_of, relative};
 pub use blocks::{note_operand, note_operands};
 pub use bytes::{byte_after, byte_at, gather, overlaid};
 pub use fetch::{Fetched, instruction};

@@ -5,8 +5,8 @@ ghost use Rattle.esa_model.specs.Access.{whole as whole_of, none as none_of};
 use arrayvec::ArrayVec;
 use std::marker::Model;
 
-/// The bytes of an operand that an instruction uses: an effective address, and their offsets from it in
-/// the order of use; whether they are tested for fetching, and for storing.
+/// The bytes of an operand that an instruction uses: an effective address, and their offsets from
+/// it in the order of use; whether they are tested for fetching, and for storing.
 #[derive(Drop)]
 pub struct Operand {
     pub at: u32,

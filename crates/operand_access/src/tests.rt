@@ -1,6 +1,7 @@
 // The edges of access: pages, wraps, the end of the storage, low addresses, keys.
 use crate::{Fetched, effective, gather, instruction, refused, relative};
 use abs_storage::AbsStorage;
+use esa_model::codes::{ADDRESSING, PROTECTION, SPECIFICATION};
 use esa_model::machine::{Psw, Registers};
 use std::alloc::Global;
 use std::test::Fail;
@@ -18,28 +19,35 @@ fn registers(key: u32, wide: bool, low: bool, prefix: u32) -> Registers {
             w1: if wide { 0x8000_0000 } else { 0 },
         },
         prefix,
+        clocks: [0; 4],
     }
 }
 
-/// One access: key of the PSW, mode, low-address bit, prefix, size, address, length, store; the code.
+/// One access: key of the PSW, mode, low-address bit, prefix, size, address, length, store; its
+/// code.
 const EDGES: [(u32, bool, bool, u32, u32, u32, u16, bool, u8); 14] = [
     (1, true, false, 0, 0x2_0000, 0x1FFF, 1, true, 0),
-    (1, true, false, 0, 0x2_0000, 0x1FFF, 2, true, 4),
-    (1, true, false, 0, 0x2_0000, 0x2000, 1, false, 4),
+    (1, true, false, 0, 0x2_0000, 0x1FFF, 2, true, PROTECTION),
+    (1, true, false, 0, 0x2_0000, 0x2000, 1, false, PROTECTION),
     (2, true, false, 0, 0x2_0000, 0x2000, 1, false, 0),
     (2, true, false, 0, 0x2_0000, 0x1000, 1, false, 0),
     (0, true, false, 0, 0x2_0000, 0x1FFF, 2, true, 0),
-    (0, true, false, 0, 0x2_0000, 0x1_FFFF, 2, false, 5),
-    (1, true, false, 0, 0x2_0000, 0x1_FFFF, 2, true, 4),
-    (1, false, false, 0, 0x100_0000, 0xFF_FFFF, 2, false, 4),
+    (0, true, false, 0, 0x2_0000, 0x1_FFFF, 2, false, ADDRESSING),
+    (1, true, false, 0, 0x2_0000, 0x1_FFFF, 2, true, PROTECTION),
+    (
+        1, false, false, 0, 0x100_0000, 0xFF_FFFF, 2, false, PROTECTION,
+    ),
     (0, false, false, 0, 0x100_0000, 0xFF_FFFF, 2, false, 0),
-    (0, true, false, 0, 0x100_0000, 0xFF_FFFF, 2, false, 5),
-    (0, true, true, 0x4000, 0x2_0000, 511, 1, true, 4),
+    (
+        0, true, false, 0, 0x100_0000, 0xFF_FFFF, 2, false, ADDRESSING,
+    ),
+    (0, true, true, 0x4000, 0x2_0000, 511, 1, true, PROTECTION),
     (0, true, true, 0x4000, 0x2_0000, 512, 1, true, 0),
     (0, true, true, 0x4000, 0x2_0000, 511, 1, false, 0),
 ];
 
-/// Keys of 4,096 blocks: 1 of access key 1, 2 and 0 fetch-protected of access key 2, 31 of access key 3.
+/// Keys of 4,096 blocks: 1 of access key 1, 2 and 0 fetch-protected of access key 2, 31 of access
+/// key 3.
 fn new_keys(alloc: Global) -> Result<Keys, Fail> {
     let Ok(mut keys) = Keys::new(alloc, 4096) else {
         return Err("no memory".into());
@@ -78,6 +86,7 @@ fn fetches(rt: HostRuntime) -> Result<(), Fail> {
     let Ok(mut storage) = AbsStorage::new(rt.alloc(), 0x2_0000) else {
         return Err("no memory".into());
     };
+    // MVI
     let _ = storage.store(0, 0x92);
     let _ = storage.store(0x1_FFFE, 0x92);
     let r = registers(0, false, false, 0);
@@ -93,13 +102,13 @@ fn fetches(rt: HostRuntime) -> Result<(), Fail> {
     let cut = Fetched {
         bytes: [0x92, 0, 0, 0, 0, 0],
         len: 4,
-        fault: 5,
+        fault: ADDRESSING,
     };
     assert_eq!(rt; instruction(&r, &keys, &mut storage, 0x1_FFFE), cut);
     let odd = Fetched {
         bytes: [0; 6],
         len: 0,
-        fault: 6,
+        fault: SPECIFICATION,
     };
     assert_eq!(rt; instruction(&r, &keys, &mut storage, 1), odd);
     Ok(())

@@ -1,18 +1,23 @@
 -- What a packet tells of the console and of the bus.
-use Rattle.std.proofs.Common.{◌≡◌, ◌⊎◌, ℕ, ◌≤◌, List, [], ◌∷◌, length, take, refl, sym, ◌∙◌, arith, inl, inr}
+use Rattle.std.proofs.Common.{◌≡◌, ◌⊎◌, ℕ, ◌≤◌, List, [], ◌∷◌, length, take, refl, sym, arith, inl, inr}
 use Rattle.std.specs.Prelude.{◌==◌, if◌then◌else◌, nat_lt, nat_le, Bool, true, false, ◌&&◌, Option, Some, None}
 use Rattle.std.specs.Option.{unwrap_or}
 use Rattle.std.proofs.lemmas.Grind.{common_steps}
 use Rattle.esa_model.specs.declared.machine.Signals.{Signals}
-use Rattle.esa_model.specs.declared.machine.CpuState.TheVariants.{CheckStop}
-use Rattle.esa_model.specs.Bus.{quiet, signalled, signals_of}
+use Rattle.esa_model.specs.declared.machine.Request.TheVariants.{Key, Malfunction, Emergency, ExternalCall, Comparator, Timer}
+use Rattle.esa_model.specs.declared.events.KeySet.{KeySet}
+use Rattle.esa_model.specs.declared.events.SentOrder.{SentOrder}
+use Rattle.esa_model.specs.declared.events.Taken.{Taken}
+use Rattle.esa_model.specs.declared.events.Taken.TheVariants as taking
+use Rattle.esa_model.specs.Bus.{signalled, signals_of, after_sending}
+use Rattle.esa_model.specs.PacketCodes.{taken_of, taken_number, taken_sender, key_set_of, key_block, key_byte, order_number, order_target}
 use Rattle.esa_model.specs.SigpAnswers.{after_order, answer_of, answer_in}
 use Rattle.esa_model.specs.Unit.{Done}
 use Rattle.esa_model.specs.Machine.{Machine}
 use Rattle.esa_model.specs.Packet.{fields, filled, console_kind, console_count}
 use Rattle.esa_model.specs.Apply.{console_in, console_out}
-use Rattle.result_packet.proofs.Log.{no_request}
-use Rattle.packet_law.specs.Sound.{IsSound, IsTaken, ReadsConsole}
+use Rattle.row_frame.specs.Made.{ReadsConsole, SetsKey}
+use Rattle.packet_law.specs.Sound.{IsSound, IsSent, IsTaken}
 
 -- ---- the console
 
@@ -52,11 +57,7 @@ console_read m i d e = in_known d.console_in (length m.console) d.console_out e.
 
 -- ---- the bus
 
--- an order that is none changes nothing, whether it is looked at or not
-unsignalled : (i to : ℕ) (bus : List Signals) → signalled 0 i to bus ≡ bus
-unfolding signalled signals_of
-unsignalled i to bus = sym (no_request bus to (quiet CheckStop))
-
+-- an order that is none changes nothing
 by_reach : (b : Bool) (s : Signals) → (if b then record { cc = 3; status = 0; accepted = false } else answer_in s 0).accepted ≡ false
 unfolding answer_in
 by_reach true s = refl
@@ -76,6 +77,23 @@ accepted order i to bus h =
     let sender : nat_lt i (length bus) ≡ true = let s = h.sender in grind (arith, s) in
     rw (sender, h.accepted) refl
 
-pub order_known : (order i to : ℕ) (bus : List Signals) → ((order ≡ 0) ⊎ IsTaken order i to bus) → after_order order i to bus ≡ signalled order i to bus
-order_known order i to bus (inl none) = rw none (unordered i to bus ∙ sym (unsignalled i to bus))
-order_known order i to bus (inr h) = accepted order i to bus h
+pub order_known : (o : Option SentOrder) (i : ℕ) (bus : List Signals) → IsSent o i bus
+    → after_order (order_number o) i (order_target o) bus ≡ after_sending o i bus
+order_known None i bus h = unordered i 0xFF bus
+order_known (Some o) i bus h = accepted o.order i o.to bus h
+
+-- ---- what is taken, and the key that is set
+
+pub taken_known : (t : Option Taken) → taken_of (taken_number t) (taken_sender t) ≡ t
+taken_known None = refl
+taken_known (Some (taking.Request Key)) = refl
+taken_known (Some (taking.Request (Malfunction c))) = refl
+taken_known (Some (taking.Request (Emergency c))) = refl
+taken_known (Some (taking.Request (ExternalCall c))) = refl
+taken_known (Some (taking.Request Comparator)) = refl
+taken_known (Some (taking.Request Timer)) = refl
+taken_known (Some taking.Restart) = refl
+
+pub key_known : (k : Option KeySet) → SetsKey k → key_set_of (key_block k) (key_byte k) ≡ k
+key_known None h = refl
+key_known (Some k) h = let e : k.block == 0xFFFF ≡ false = grind (arith, h) in rw e refl

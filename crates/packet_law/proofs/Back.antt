@@ -1,12 +1,11 @@
 -- A packet reads as the fields that it was made of.
-use Rattle.std.proofs.Common.{◌≡◌, ℕ, zero, suc, ◌+◌, ◌*◌, ◌≤◌, List, [], ◌∷◌, length, take, drop, replicate, refl, ap, ◌∙◌, arith, subst}
-use Rattle.std.proofs.lemmas.Grind.{common_steps}
+use Rattle.std.proofs.Common.{◌≡◌, ℕ, zero, suc, ◌+◌, ◌*◌, ◌^◌, ◌<◌, ◌≤◌, List, [], ◌∷◌, length, take, drop, replicate, refl, ap, ◌∙◌, arith, subst}
+use Rattle.std.specs.Prelude.{All}
 use Rattle.std.proofs.lemmas.List.Elements.{recursion_from_All}
-use Rattle.result_packet.proofs.Put.{length-put}
-use Rattle.esa_model.specs.declared.machine.Psw.{Psw}
+use Rattle.result_packet.proofs.Put.{length-put, length-numbers}
 use Rattle.esa_model.specs.Packet.{put, Fields, number_at, numbers, numbers_at, built, psw_of, parts, packet_of, read}
 use Rattle.packet_law.specs.Fine.{IsFine}
-use Rattle.packet_law.proofs.Reading.{Above, part-built, number-known, numbers4-known, numbers2-known, psw-known}
+use Rattle.packet_law.proofs.Reading.{Above, part-built, number-known, numbers-known, psw-known}
 
 -- the parts stand in ascending order from m, and inside
 abbrev pub Ascending : ℕ → List (ℕ × List ℕ) → Type 0
@@ -46,48 +45,25 @@ field (suc k) m (f ∷ fs) p l asc =
     field k (f.0 + length f.1) fs (put f.0 f.1 p)
     (length-put f.0 f.1 p (let e = ends (f.0 + length f.1) fs asc.1 in omega arith) ∙ l) asc.1
 
-length-numbers4 : (ws : List ℕ) → length (numbers 4 ws) ≡ 4 * length ws
-length-numbers4 [] = refl
-length-numbers4 (w ∷ ws) = grind (arith, common_steps, length-numbers4 ws)
-
-length-numbers2 : (ws : List ℕ) → length (numbers 2 ws) ≡ 2 * length ws
-length-numbers2 [] = refl
-length-numbers2 (w ∷ ws) = grind (arith, common_steps, length-numbers2 ws)
-
 ascending : (f : Fields) → IsFine f → Ascending 0 (parts f)
 ascending f fine =
-    let g : length (numbers 4 f.registers.general) ≡ 64 = length-numbers4 f.registers.general ∙ ap (λ (k : ℕ). 4 * k) fine.generals in
-    let c : length (numbers 4 f.registers.control) ≡ 64 = length-numbers4 f.registers.control ∙ ap (λ (k : ℕ). 4 * k) fine.controls in
-    let b : length (numbers 2 f.blocks) ≡ 16 = length-numbers2 f.blocks ∙ ap (λ (k : ℕ). 2 * k) fine.eight in
-    (omega arith, (omega arith, (omega (arith, g), (omega (arith, c), (omega arith, (omega arith, (omega arith, (omega arith, (omega arith, (omega arith, (omega arith, (omega arith, (omega arith, (omega arith, (omega arith, (omega arith, (omega arith, (omega arith, (omega arith, (omega arith, (omega arith, (omega (arith, b), omega (arith, fine.tail)))))))))))))))))))))))
+    let g : length (numbers 4 f.registers.general) ≡ 64 = length-numbers 4 f.registers.general ∙ ap (λ (k : ℕ). 4 * k) fine.generals in
+    let c : length (numbers 4 f.registers.control) ≡ 64 = length-numbers 4 f.registers.control ∙ ap (λ (k : ℕ). 4 * k) fine.controls in
+    let b : length (numbers 2 f.blocks) ≡ 16 = length-numbers 2 f.blocks ∙ ap (λ (k : ℕ). 2 * k) fine.eight in
+    let d : length (numbers 8 f.registers.clocks) ≡ 32 = length-numbers 8 f.registers.clocks ∙ ap (λ (k : ℕ). 8 * k) fine.four in
+    let t = fine.tail in
+    search (arith, g, c, b, d, t) depth 60
 
-abbrev made : List ℕ → List ℕ → Psw → ℕ → ℕ → Psw → ℕ → ℕ → ℕ → ℕ → ℕ → ℕ → ℕ → ℕ → ℕ → ℕ → ℕ → ℕ → ℕ → ℕ → List ℕ → List ℕ → Fields
-made general control psw prefix kind old identification request sender order_to order block key console count first_len first_at second_len second_at block_count blocks tail = record {
-  registers = record { general = general; control = control; psw = psw; prefix = prefix };
-  kind = kind;
-  old = old;
-  identification = identification;
-  request = request;
-  sender = sender;
-  order_to = order_to;
-  order = order;
-  block = block;
-  key = key;
-  console = console;
-  count = count;
-  first_len = first_len;
-  first_at = first_at;
-  second_len = second_len;
-  second_at = second_at;
-  block_count = block_count;
-  blocks = blocks;
-  tail = tail;
-}
-
-same : (f : Fields) (general : List ℕ) (control : List ℕ) (psw : Psw) (prefix : ℕ) (kind : ℕ) (old : Psw) (identification : ℕ) (request : ℕ) (sender : ℕ) (order_to : ℕ) (order : ℕ) (block : ℕ) (key : ℕ) (console : ℕ) (count : ℕ) (first_len : ℕ) (first_at : ℕ) (second_len : ℕ) (second_at : ℕ) (block_count : ℕ) (blocks : List ℕ) (tail : List ℕ)
-    → general ≡ f.registers.general → control ≡ f.registers.control → psw ≡ f.registers.psw → prefix ≡ f.registers.prefix → kind ≡ f.kind → old ≡ f.old → identification ≡ f.identification → request ≡ f.request → sender ≡ f.sender → order_to ≡ f.order_to → order ≡ f.order → block ≡ f.block → key ≡ f.key → console ≡ f.console → count ≡ f.count → first_len ≡ f.first_len → first_at ≡ f.first_at → second_len ≡ f.second_len → second_at ≡ f.second_at → block_count ≡ f.block_count → blocks ≡ f.blocks → tail ≡ f.tail
-    → made general control psw prefix kind old identification request sender order_to order block key console count first_len first_at second_len second_at block_count blocks tail ≡ f
-same f general control psw prefix kind old identification request sender order_to order block key console count first_len first_at second_len second_at block_count blocks tail h0 h1 h2 h3 h4 h5 h6 h7 h8 h9 h10 h11 h12 h13 h14 h15 h16 h17 h18 h19 h20 h21 = rw (h0, h1, h2, h3, h4, h5, h6, h7, h8, h9, h10, h11, h12, h13, h14, h15, h16, h17, h18, h19, h20, h21) refl
+-- a list of numbers of n bytes each is read back, where it is part k
+numbers-field : (n k at len : ℕ) (ws : List ℕ) (f : Fields) → IsFine f → length ws ≡ len → All (λ w. w < 256 ^ n) ws
+    → part k (parts f) ≡ (at, numbers n ws) → numbers_at n len at (built (parts f) (replicate 512 0)) ≡ ws
+numbers-field n k at len ws f fine long fit is =
+    let p : List ℕ = built (parts f) (replicate 512 0) in
+    let there : take (length (numbers n ws)) (drop at p) ≡ numbers n ws =
+    subst (λ (q : ℕ × List ℕ). take (length q.1) (drop q.0 p) ≡ q.1) is (field k 0 (parts f) (replicate 512 0) refl (ascending f fine)) in
+    subst (λ (j : ℕ). numbers_at n j at p ≡ ws) long
+    (numbers-known n at ws p (recursion_from_All _ ws fit)
+    (subst (λ (j : ℕ). take j (drop at p) ≡ numbers n ws) (length-numbers n ws) there))
 
 pub reads_back : (f : Fields) → IsFine f → read (packet_of f) ≡ f
 unfolding packet_of read
@@ -95,18 +71,13 @@ reads_back f fine =
     let asc = ascending f fine in
     let zeros : List ℕ = replicate 512 0 in
     let p : List ℕ = built (parts f) zeros in
-    let general : numbers_at 4 16 8 p ≡ f.registers.general =
-    subst (λ (j : ℕ). numbers_at 4 j 8 p ≡ f.registers.general) fine.generals
-    (numbers4-known 8 f.registers.general p (recursion_from_All _ f.registers.general fine.general)
-    (subst (λ (j : ℕ). take j (drop 8 p) ≡ numbers 4 f.registers.general) (length-numbers4 f.registers.general) (field 1 0 (parts f) zeros refl asc))) in
-    let control : numbers_at 4 16 72 p ≡ f.registers.control =
-    subst (λ (j : ℕ). numbers_at 4 j 72 p ≡ f.registers.control) fine.controls
-    (numbers4-known 72 f.registers.control p (recursion_from_All _ f.registers.control fine.control)
-    (subst (λ (j : ℕ). take j (drop 72 p) ≡ numbers 4 f.registers.control) (length-numbers4 f.registers.control) (field 2 0 (parts f) zeros refl asc))) in
+    let general : numbers_at 4 16 8 p ≡ f.registers.general = numbers-field 4 1 8 16 f.registers.general f fine fine.generals fine.general refl in
+    let control : numbers_at 4 16 72 p ≡ f.registers.control = numbers-field 4 2 72 16 f.registers.control f fine fine.controls fine.control refl in
     let psw : psw_of 0 p ≡ f.registers.psw = psw-known 0 f.registers.psw.w0 f.registers.psw.w1 p fine.w0 fine.w1 (field 0 0 (parts f) zeros refl asc) in
     let prefix : number_at 4 136 p ≡ f.registers.prefix = number-known 4 136 f.registers.prefix p fine.prefix (field 3 0 (parts f) zeros refl asc) in
-    let kind : number_at 1 140 p ≡ f.kind = number-known 1 140 f.kind p fine.kind (field 4 0 (parts f) zeros refl asc) in
+    let clocks : numbers_at 8 4 196 p ≡ f.registers.clocks = numbers-field 8 21 196 4 f.registers.clocks f fine fine.four fine.clocks refl in
     let old : psw_of 142 p ≡ f.old = psw-known 142 f.old.w0 f.old.w1 p fine.old0 fine.old1 (field 5 0 (parts f) zeros refl asc) in
+    let kind : number_at 1 140 p ≡ f.kind = number-known 1 140 f.kind p fine.kind (field 4 0 (parts f) zeros refl asc) in
     let identification : number_at 4 150 p ≡ f.identification = number-known 4 150 f.identification p fine.identification (field 6 0 (parts f) zeros refl asc) in
     let request : number_at 1 154 p ≡ f.request = number-known 1 154 f.request p fine.request (field 7 0 (parts f) zeros refl asc) in
     let sender : number_at 1 155 p ≡ f.sender = number-known 1 155 f.sender p fine.sender (field 8 0 (parts f) zeros refl asc) in
@@ -121,10 +92,27 @@ reads_back f fine =
     let second_len : number_at 2 170 p ≡ f.second_len = number-known 2 170 f.second_len p fine.second_len (field 17 0 (parts f) zeros refl asc) in
     let second_at : number_at 4 172 p ≡ f.second_at = number-known 4 172 f.second_at p fine.second_at (field 18 0 (parts f) zeros refl asc) in
     let block_count : number_at 1 176 p ≡ f.block_count = number-known 1 176 f.block_count p fine.block_count (field 19 0 (parts f) zeros refl asc) in
-    let blocks : numbers_at 2 8 178 p ≡ f.blocks =
-    subst (λ (j : ℕ). numbers_at 2 j 178 p ≡ f.blocks) fine.eight
-    (numbers2-known 178 f.blocks p (recursion_from_All _ f.blocks fine.blocks)
-    (subst (λ (j : ℕ). take j (drop 178 p) ≡ numbers 2 f.blocks) (length-numbers2 f.blocks) (field 20 0 (parts f) zeros refl asc))) in
-    let tail : take 256 (drop 256 p) ≡ f.tail = subst (λ (j : ℕ). take j (drop 256 p) ≡ f.tail) fine.tail (field 21 0 (parts f) zeros refl asc) in
-    same f (numbers_at 4 16 8 p) (numbers_at 4 16 72 p) (psw_of 0 p) (number_at 4 136 p) (number_at 1 140 p) (psw_of 142 p) (number_at 4 150 p) (number_at 1 154 p) (number_at 1 155 p) (number_at 1 156 p) (number_at 1 157 p) (number_at 2 158 p) (number_at 1 160 p) (number_at 1 161 p) (number_at 2 162 p) (number_at 2 164 p) (number_at 4 166 p) (number_at 2 170 p) (number_at 4 172 p) (number_at 1 176 p) (numbers_at 2 8 178 p) (take 256 (drop 256 p))
-    general control psw prefix kind old identification request sender order_to order block key console count first_len first_at second_len second_at block_count blocks tail
+    let blocks : numbers_at 2 8 178 p ≡ f.blocks = numbers-field 2 20 178 8 f.blocks f fine fine.eight fine.blocks refl in
+    let tail : take 256 (drop 256 p) ≡ f.tail =
+    subst (λ (j : ℕ). take j (drop 256 p) ≡ f.tail) fine.tail (field 22 0 (parts f) zeros refl asc) in
+    λ i. record {
+      registers = record { general = general i; control = control i; psw = psw i; prefix = prefix i; clocks = clocks i };
+      kind = kind i;
+      old = old i;
+      identification = identification i;
+      request = request i;
+      sender = sender i;
+      order_to = order_to i;
+      order = order i;
+      block = block i;
+      key = key i;
+      console = console i;
+      count = count i;
+      first_len = first_len i;
+      first_at = first_at i;
+      second_len = second_len i;
+      second_at = second_at i;
+      block_count = block_count i;
+      blocks = blocks i;
+      tail = tail i;
+    }

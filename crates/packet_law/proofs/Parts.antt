@@ -1,14 +1,16 @@
 -- Carrying out the fields of an event is the event.
 use Rattle.std.proofs.Common.{◌≡◌, ℕ, ◌+◌, ◌-◌, ◌%◌, ◌<◌, ◌≤◌, List, [], ◌∷◌, ◌++◌, length, take, drop, refl, sym, ap, ◌∙◌, arith, subst}
-use Rattle.std.specs.Prelude.{◌==◌, if◌then◌else◌, nat_lt, nat_le, Bool, true, false, min}
-use Rattle.std.specs.Int.{w32, to_be_bytes}
+use Rattle.std.specs.Prelude.{◌==◌, if◌then◌else◌, nat_le, true, false, min, Option, Some, None}
 use Rattle.std.proofs.lemmas.Grind.{common_steps}
+use Rattle.esa_model.specs.declared.events.Interruption.{Interruption}
+use Rattle.esa_model.specs.declared.events.Interruption.TheVariants.{Program, SupervisorCall, External, Restart}
 use Rattle.esa_model.specs.declared.machine.Registers.{Registers}
 use Rattle.esa_model.specs.declared.machine.Psw.{Psw}
 use Rattle.esa_model.specs.Access.{place, written}
 use Rattle.esa_model.specs.Unit.{Done}
-use Rattle.esa_model.specs.Machine.{Machine, changed, reference_all, storage_after, keys_after}
-use Rattle.esa_model.specs.Packet.{fields, filled, first_piece, piece_at}
+use Rattle.esa_model.specs.Machine.{Machine, changed, reference_all, swap_stored, swap_changed, storage_after, keys_after}
+use Rattle.esa_model.specs.Packet.{fields, filled, first_piece, piece_at, old_psw}
+use Rattle.esa_model.specs.PacketCodes.{interruption_of, interruption_number}
 use Rattle.esa_model.specs.Apply.{piece, piece_keys, applied_storage, applied_keys}
 use Rattle.operand_access.proofs.Over.{length-written, written-append}
 use Rattle.packet_law.proofs.Spell.{place_more, written_piece, changed_piece}
@@ -128,13 +130,22 @@ spelled_keys r size to n stored keys p =
 blocks_known : (bs : List ℕ) → length bs ≤ 8 → (if nat_le (length bs) 8 then take (length bs) (filled 8 bs) else []) ≡ bs
 blocks_known bs h = grind (arith, common_steps, h)
 
-kind_known : (k : ℕ) → k < 5 → (if nat_lt k 5 then k else 0) ≡ k
-kind_known k h = grind (arith, h)
+-- what an interruption stores
+stored_known : (r : Registers) (k : Option Interruption) (p : Psw) (n : ℕ) (s : List ℕ)
+    → swap_stored r (interruption_of (interruption_number k)) (old_psw k p) n s ≡ swap_stored r k p n s
+stored_known r None p n s = refl
+stored_known r (Some Program) p n s = refl
+stored_known r (Some SupervisorCall) p n s = refl
+stored_known r (Some External) p n s = refl
+stored_known r (Some Restart) p n s = refl
 
-old_by : (b : Bool) (z w : Psw) → (if b then [] else to_be_bytes w32 (if b then z else w).w0 ++ to_be_bytes w32 (if b then z else w).w1)
-    ≡ (if b then [] else to_be_bytes w32 w.w0 ++ to_be_bytes w32 w.w1)
-old_by true z w = refl
-old_by false z w = refl
+changed_known : (r : Registers) (k : Option Interruption) (p : Psw) (n size : ℕ) (keys : List ℕ)
+    → swap_changed r (interruption_of (interruption_number k)) (old_psw k p) n size keys ≡ swap_changed r k p n size keys
+changed_known r None p n size keys = refl
+changed_known r (Some Program) p n size keys = refl
+changed_known r (Some SupervisorCall) p n size keys = refl
+changed_known r (Some External) p n size keys = refl
+changed_known r (Some Restart) p n size keys = refl
 
 -- ---- the storage and the keys
 
@@ -142,31 +153,25 @@ pub storage_known : (m : Machine) (i : ℕ) (d : Done) → IsSound m i d
     → applied_storage (m.registers i) (fields (m.registers i) d m.storage) m.storage ≡ storage_after (m.registers i) d m.storage
 unfolding applied_storage storage_after fields
 storage_known m i d e =
+    let r : Registers = m.registers i in
     let p = cut m i d e in
-    let kind = kind_known d.kind e.kind in
     let first = front (first_piece d) d.stored d.console_out p.short in
     let second = back (first_piece d) (length d.stored - first_piece d) d.stored d.console_out (let h = p.short in omega (arith, h)) in
-    rw (
-      kind,
-      old_by (d.kind == 0) (record { w0 = 0; w1 = 0 }) d.registers.psw,
-      first,
-      second,
-      spelled (m.registers i) d.to (first_piece d) d.stored m.storage p,
-    ) refl
+    stored_known r d.interruption d.registers.psw d.identification _
+    ∙ rw (first, second, spelled r d.to (first_piece d) d.stored m.storage p) refl
 
 pub keys_known : (m : Machine) (i : ℕ) (d : Done) → IsSound m i d
     → applied_keys (m.registers i) (fields (m.registers i) d m.storage) (length m.storage) m.keys ≡ keys_after (m.registers i) d (length m.storage) m.keys
 unfolding applied_keys keys_after fields
 keys_known m i d e =
+    let r : Registers = m.registers i in
     let p = cut m i d e in
-    let kind = kind_known d.kind e.kind in
     let first = front (first_piece d) d.stored d.console_out p.short in
     let second = back (first_piece d) (length d.stored - first_piece d) d.stored d.console_out (let h = p.short in omega (arith, h)) in
-    rw (
-      kind,
-      old_by (d.kind == 0) (record { w0 = 0; w1 = 0 }) d.registers.psw,
+    changed_known r d.interruption d.registers.psw d.identification (length m.storage) _
+    ∙ rw (
       first,
       second,
       blocks_known d.blocks e.blocks,
-      spelled_keys (m.registers i) (length m.storage) d.to (first_piece d) d.stored (reference_all d.blocks m.keys) p,
+      spelled_keys r (length m.storage) d.to (first_piece d) d.stored (reference_all d.blocks m.keys) p,
     ) refl

@@ -6,14 +6,15 @@ use Rattle.std.proofs.lemmas.List.FromFn.{get_or-range_with_len}
 use Rattle.esa_model.specs.declared.machine.Registers.{Registers}
 use Rattle.esa_model.specs.declared.instructions.Row.{Row}
 use Rattle.esa_model.specs.declared.instructions.Decoded.{Decoded}
+use Rattle.esa_model.specs.declared.codes.TheConstants.{PRIVILEGED, SPECIFICATION}
 use Rattle.esa_model.specs.Word.{first_code}
 use Rattle.esa_model.specs.Psw.{is_problem}
 use Rattle.esa_model.specs.Access.{Memory, Operands, permit, codes, refused, place}
-use Rattle.esa_model.specs.Line.{Effect, Inputs, Line, memory_of}
+use Rattle.esa_model.specs.Line.{Effect, FullLine, Situation, memory_of}
 use Rattle.esa_model.specs.Unit.{Done, suppressed, carried, exception, performed}
 use Rattle.esa_model.specs.Machine.{Machine}
 use Rattle.packet_law.specs.Sound.{IsSound}
-use Rattle.packet_law.specs.Rows.{Tells, inputs_at}
+use Rattle.packet_law.specs.Rows.{Tells, TellsCompleted, inputs_at}
 
 -- ---- a first operand that is not refused lies inside
 
@@ -45,9 +46,7 @@ covered r m os n k h e front long lt =
 completed : (m : Machine) (i len : ℕ) (os : Operands) (e : Effect) (blocks : List ℕ)
     → refused (m.registers i) (record { storage = m.storage; keys = m.keys }) os ≡ 0 → Tells m i os e blocks
     → IsSound m i (carried (m.registers i) len os e blocks)
-unfolding carried
 completed m i len os e blocks h t = record {
-  kind = let k = t.covers.kind in omega (arith, k);
   stored = t.stored;
   inside = λ k lt. covered (m.registers i) (record { storage = m.storage; keys = m.keys }) os (length e.stored) k h
       (t.covers.store (omega (arith, lt))) t.fits.first t.covers.short lt;
@@ -55,20 +54,21 @@ completed m i len os e blocks h t = record {
   one = t.covers.one;
   read = t.read;
   blocks = t.few;
+  key = t.key;
   order = t.order;
 }
 
 stopped : (m : Machine) (i len code : ℕ) (blocks : List ℕ) → length blocks ≤ 8 → IsSound m i (suppressed (m.registers i) len code blocks)
 unfolding suppressed
 stopped m i len code blocks h = record {
-  kind = omega arith;
   stored = omega arith;
   inside = λ k lt. absurd (omega (arith, lt));
   written = omega arith;
   one = inl refl;
   read = tt;
   blocks = h;
-  order = inl refl;
+  key = tt;
+  order = tt;
 }
 
 chosen : (m : Machine) (i code fault : ℕ) (x y z : Done) → (code ≡ 0 → fault ≡ 0 → IsSound m i x) → IsSound m i y → IsSound m i z
@@ -80,19 +80,18 @@ chosen m i (suc k) f x y z h1 h2 h3 = let e : (suc k == 0) ≡ false = grind ari
 last_zero : (a b c : ℕ) → first_code (a ∷ b ∷ c ∷ []) ≡ 0 → c ≡ 0
 last_zero a b c h = grind (arith, h)
 
-not_refused : (row : Row) (l : Line) (i : Inputs) → exception row l i ≡ 0 → refused i.registers (memory_of i) (l.operands i) ≡ 0
+not_refused : (row : Row) (l : FullLine) (s : Situation) → exception row l s ≡ 0 → refused s.inputs.registers (memory_of s) (l.operands s) ≡ 0
 unfolding exception
-not_refused row l i h =
-    last_zero (if row.privileged && is_problem i.registers.psw then 2 else 0) (if l.in_order i then 0 else 6)
-    (refused i.registers (memory_of i) (l.operands i)) h
+not_refused row l s h =
+    last_zero (if row.privileged && is_problem s.inputs.registers.psw then PRIVILEGED else 0) (if l.in_order s then 0 else SPECIFICATION)
+    (refused s.inputs.registers (memory_of s) (l.operands s)) h
 
-pub sound_row : (m : Machine) (i own len : ℕ) (d : Decoded) (row : Row) (l : Line) (blocks : List ℕ) → length blocks ≤ 8
-    → (exception row l (inputs_at m i d own len) ≡ 0 → (l.effect (inputs_at m i d own len)).fault ≡ 0
-    → Tells m i (l.operands (inputs_at m i d own len)) (l.effect (inputs_at m i d own len)) blocks)
+pub sound_row : (m : Machine) (i own len : ℕ) (d : Decoded) (row : Row) (l : FullLine) (blocks : List ℕ) → length blocks ≤ 8
+    → TellsCompleted m i row l (inputs_at m i d own len) blocks
     → IsSound m i (performed row l (inputs_at m i d own len) blocks)
 unfolding performed
 sound_row m i own len d row l blocks few t =
-    let x : Inputs = inputs_at m i d own len in
+    let x : Situation = inputs_at m i d own len in
     chosen m i (exception row l x) (l.effect x).fault
     (carried (m.registers i) len (l.operands x) (l.effect x) blocks)
     (suppressed (m.registers i) len (l.effect x).fault blocks)

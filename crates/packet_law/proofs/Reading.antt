@@ -4,7 +4,7 @@ use Rattle.std.proofs.lemmas.Grind.{common_steps}
 use Rattle.std.specs.List.{AllByRecursion}
 use Rattle.std.proofs.Common.{subst, append-nil}
 use Rattle.std.proofs.lemmas.List.{drop-take, drop-drop, take_at, drop_at}
-use Rattle.std.proofs.Math.Nat.{mod-eq_of_lt}
+use Rattle.std.proofs.Math.Nat.{mod-eq_of_lt, mul-suc, add_comm}
 use Rattle.byteorder.specs.Endian.{big_number, big_bytes}
 use Rattle.byteorder.specs.Numbers.{big_from-bytes, big_from-take, length-bytes_high_first}
 use Rattle.result_packet.proofs.Put.{length-put, drop-put_same, take-put_below}
@@ -69,32 +69,19 @@ front n m zs ys rest e h = (
   sym (drop-take n m zs) ∙ (ap (drop n) h ∙ drop_at ys rest n (sym e)),
 )
 
--- numbers of 4 bytes in bytes that are known
-pub numbers4-known : (at : ℕ) (ws xs : List ℕ) → AllByRecursion (λ w. w < 256 ^ 4) ws → take (4 * length ws) (drop at xs) ≡ numbers 4 ws → numbers_at 4 (length ws) at xs ≡ ws
+-- numbers of n bytes in bytes that are known
+pub numbers-known : (n at : ℕ) (ws xs : List ℕ) → AllByRecursion (λ w. w < 256 ^ n) ws → take (n * length ws) (drop at xs) ≡ numbers n ws
+    → numbers_at n (length ws) at xs ≡ ws
 unfolding numbers_at
-numbers4-known at [] xs fits same = refl
-numbers4-known at (w ∷ ws) xs fits same =
-    let count : 4 * length (w ∷ ws) ≡ 4 + 4 * length ws = omega arith in
-    let known : take (4 + 4 * length ws) (drop at xs) ≡ big_bytes 4 w ++ numbers 4 ws =
-    subst (λ (j : ℕ). take j (drop at xs) ≡ big_bytes 4 w ++ numbers 4 ws) count same in
-    let parts = front 4 (4 * length ws) (drop at xs) (big_bytes 4 w) (numbers 4 ws) refl known in
-    let head : number_at 4 at xs ≡ w = number-known 4 at w xs fits.0 parts.0 in
-    let tail : numbers_at 4 (length ws) (at + 4) xs ≡ ws =
-    numbers4-known (at + 4) ws xs fits.1 (ap (take (4 * length ws)) (sym (drop-drop 4 at xs)) ∙ parts.1) in
-    cc
-
--- numbers of 2 bytes in bytes that are known
-pub numbers2-known : (at : ℕ) (ws xs : List ℕ) → AllByRecursion (λ w. w < 256 ^ 2) ws → take (2 * length ws) (drop at xs) ≡ numbers 2 ws → numbers_at 2 (length ws) at xs ≡ ws
-unfolding numbers_at
-numbers2-known at [] xs fits same = refl
-numbers2-known at (w ∷ ws) xs fits same =
-    let count : 2 * length (w ∷ ws) ≡ 2 + 2 * length ws = omega arith in
-    let known : take (2 + 2 * length ws) (drop at xs) ≡ big_bytes 2 w ++ numbers 2 ws =
-    subst (λ (j : ℕ). take j (drop at xs) ≡ big_bytes 2 w ++ numbers 2 ws) count same in
-    let parts = front 2 (2 * length ws) (drop at xs) (big_bytes 2 w) (numbers 2 ws) refl known in
-    let head : number_at 2 at xs ≡ w = number-known 2 at w xs fits.0 parts.0 in
-    let tail : numbers_at 2 (length ws) (at + 2) xs ≡ ws =
-    numbers2-known (at + 2) ws xs fits.1 (ap (take (2 * length ws)) (sym (drop-drop 2 at xs)) ∙ parts.1) in
+numbers-known n at [] xs fits same = refl
+numbers-known n at (w ∷ ws) xs fits same =
+    let count : n * length (w ∷ ws) ≡ n + n * length ws = mul-suc n (length ws) ∙ add_comm (n * length ws) n in
+    let known : take (n + n * length ws) (drop at xs) ≡ big_bytes n w ++ numbers n ws =
+    subst (λ (j : ℕ). take j (drop at xs) ≡ big_bytes n w ++ numbers n ws) count same in
+    let parts = front n (n * length ws) (drop at xs) (big_bytes n w) (numbers n ws) (sym (length-bytes_high_first n w)) known in
+    let head : number_at n at xs ≡ w = number-known n at w xs fits.0 parts.0 in
+    let tail : numbers_at n (length ws) (at + n) xs ≡ ws =
+    numbers-known n (at + n) ws xs fits.1 (ap (take (n * length ws)) (sym (drop-drop n at xs)) ∙ parts.1) in
     cc
 
 pub psw-known : (at w0 w1 : ℕ) (xs : List ℕ) → w0 < 2 ^ 32 → w1 < 2 ^ 32 → take 8 (drop at xs) ≡ two_words (record { w0 = w0; w1 = w1 }) → psw_of at xs ≡ record { w0 = w0; w1 = w1 }

@@ -1,22 +1,30 @@
 -- The fields of an event of typed values fit the packet.
-use Rattle.std.proofs.Common.{◌≡◌, ℕ, zero, suc, ◌+◌, ◌*◌, ◌-◌, ◌/◌, ◌%◌, ◌^◌, ◌<◌, ◌≤◌, List, [], ◌∷◌, ◌++◌, length, get_or, replicate, map, sym, arith, subst}
-use Rattle.std.specs.Prelude.{◌==◌, ◌||◌, if◌then◌else◌, Bool, true, false, All, Option, Some, None, slice_set}
+use Rattle.std.proofs.Common.{◌≡◌, ℕ, zero, suc, ◌+◌, ◌*◌, ◌-◌, ◌/◌, ◌%◌, ◌^◌, ◌<◌, ◌≤◌, List, [], ◌∷◌, length, get_or, replicate, map, sym, arith, subst}
+use Rattle.std.specs.Prelude.{◌==◌, if◌then◌else◌, Bool, true, false, All, Option, Some, None, slice_set}
 use Rattle.std.specs.Int.{w32, to_be_bytes, bytes_high_first, byte_at}
 use Rattle.std.specs.List.{range_with_len}
 use Rattle.std.proofs.lemmas.Grind.{common_steps}
 use Rattle.std.proofs.lemmas.List.Elements.{All-nil, All-cons, All-head, All-tail, All-append, All-set, All-replicate}
 use Rattle.std.proofs.lemmas.Option.{unwrap_or-slice_get}
 use Rattle.byteorder.specs.Numbers.{big_from-lt}
+use Rattle.esa_model.specs.declared.events.Interruption.{Interruption}
+use Rattle.esa_model.specs.declared.events.Interruption.TheVariants.{Program, SupervisorCall, External, Restart}
+use Rattle.esa_model.specs.declared.events.Taken.{Taken}
+use Rattle.esa_model.specs.declared.events.Taken.TheVariants as taking
 use Rattle.esa_model.specs.declared.machine.Registers.{Registers}
+use Rattle.esa_model.specs.declared.machine.Request.{Request}
+use Rattle.esa_model.specs.declared.machine.Request.TheVariants as requested
 use Rattle.esa_model.specs.declared.machine.Psw.{Psw}
 use Rattle.esa_model.specs.Access.{place, prefix_page, real, byte, bytes, written}
 use Rattle.esa_model.specs.Line.{word_at}
 use Rattle.esa_model.specs.Places.{old_at, new_at, identification_at}
 use Rattle.esa_model.specs.Unit.{Done}
-use Rattle.esa_model.specs.Machine.{Machine, old_bytes, identification_bytes, storage_after, psw_after, registers_after}
-use Rattle.esa_model.specs.Packet.{fields, filled, first_piece, piece_at, console_kind, console_count}
+use Rattle.esa_model.specs.Machine.{Machine, psw_bytes, identification_bytes, swap_stored, storage_after, psw_by, psw_after, registers_after}
+use Rattle.esa_model.specs.Packet.{fields, filled, first_piece, piece_at, console_kind, console_count, old_psw}
+use Rattle.esa_model.specs.PacketCodes.{interruption_number, request_number, taken_number}
+use Rattle.row_frame.specs.Made.{ReadsConsole}
 use Rattle.packet_law.specs.Fine.{IsFine}
-use Rattle.packet_law.specs.Sound.{IsSound, ReadsConsole}
+use Rattle.packet_law.specs.Sound.{IsSound}
 use Rattle.packet_law.specs.Widths.{HasWidths}
 
 -- ---- bytes
@@ -43,22 +51,25 @@ written_bytes r at (x ∷ xs) s h bs =
     written_bytes r (at + 1) xs (slice_set s (place r at) x) (All-tail (λ b. b < 256) x xs h)
     (All-set (λ b. b < 256) s (place r at) x (All-head (λ b. b < 256) x xs h) bs)
 
-none_or : (b : Bool) (xs : List ℕ) → AreBytes xs → AreBytes (if b then [] else xs)
-none_or true xs h = All-nil (λ b. b < 256)
-none_or false xs h = h
+psw_are_bytes : (p : Psw) → AreBytes (psw_bytes p)
+psw_are_bytes p =
+    All-append (λ b. b < 256) (to_be_bytes w32 p.w0) (to_be_bytes w32 p.w1) (number_bytes 4 p.w0) (number_bytes 4 p.w1)
+
+own_bytes : (k : Interruption) (n : ℕ) → AreBytes (identification_bytes k n)
+own_bytes Program n = number_bytes 4 n
+own_bytes SupervisorCall n = number_bytes 4 n
+own_bytes External n = number_bytes 4 n
+own_bytes Restart n = All-nil (λ b. b < 256)
+
+swap_bytes : (r : Registers) (k : Option Interruption) (p : Psw) (n : ℕ) (s : List ℕ) → AreBytes s → AreBytes (swap_stored r k p n s)
+swap_bytes r None p n s bs = bs
+swap_bytes r (Some k) p n s bs =
+    written_bytes r (identification_at k) (identification_bytes k n) _ (own_bytes k n)
+    (written_bytes r (old_at k) (psw_bytes p) s (psw_are_bytes p) bs)
 
 after_bytes : (r : Registers) (d : Done) (s : List ℕ) → AreBytes d.stored → AreBytes s → AreBytes (storage_after r d s)
 unfolding storage_after
-after_bytes r d s h bs =
-    let old : AreBytes (old_bytes d) =
-    none_or (d.kind == 0) (to_be_bytes w32 d.registers.psw.w0 ++ to_be_bytes w32 d.registers.psw.w1)
-    (All-append (λ b. b < 256) (to_be_bytes w32 d.registers.psw.w0) (to_be_bytes w32 d.registers.psw.w1)
-    (number_bytes 4 d.registers.psw.w0) (number_bytes 4 d.registers.psw.w1)) in
-    let identification : AreBytes (identification_bytes d) =
-    none_or (d.kind == 0 || d.kind == 4) (to_be_bytes w32 d.identification) (number_bytes 4 d.identification) in
-    written_bytes r (identification_at d.kind) (identification_bytes d) _ identification
-    (written_bytes r (old_at d.kind) (old_bytes d) _ old
-    (written_bytes r d.to d.stored s h bs))
+after_bytes r d s h bs = swap_bytes r d.interruption d.registers.psw d.identification _ (written_bytes r d.to d.stored s h bs)
 
 -- ---- words of the storage
 
@@ -83,21 +94,40 @@ record IsPair (p : Psw) : Type 0 where
   w0 : p.w0 < 2 ^ 32
   w1 : p.w1 < 2 ^ 32
 
-either : (b : Bool) (p q : Psw) → IsPair p → IsPair q → IsPair (if b then p else q)
-either true p q h k = h
-either false p q h k = k
+fetched_pair : (r : Registers) (k : Option Interruption) (p : Psw) (s : List ℕ) → IsPair p → AreBytes s → IsPair (psw_by r k p s)
+fetched_pair r None p s h bs = h
+fetched_pair r (Some k) p s h bs = record { w0 = word_below r s (new_at k) bs; w1 = word_below r s (new_at k + 4) bs }
 
 psw_pair : (r : Registers) (d : Done) (s : List ℕ) → HasWidths d s → IsPair (psw_after r d s)
 unfolding psw_after
 psw_pair r d s h =
-    let bs = after_bytes r d s h.stored h.bytes in
-    either (d.kind == 0) d.registers.psw
-    (record { w0 = word_at r (storage_after r d s) (new_at d.kind); w1 = word_at r (storage_after r d s) (new_at d.kind + 4) })
-    (record { w0 = h.w0; w1 = h.w1 })
-    (record { w0 = word_below r (storage_after r d s) (new_at d.kind) bs; w1 = word_below r (storage_after r d s) (new_at d.kind + 4) bs })
+    fetched_pair r d.interruption d.registers.psw (storage_after r d s) (record { w0 = h.w0; w1 = h.w1 }) (after_bytes r d s h.stored h.bytes)
 
-old_pair : (d : Done) (s : List ℕ) → HasWidths d s → IsPair (if d.kind == 0 then record { w0 = 0; w1 = 0 } else d.registers.psw)
-old_pair d s h = either (d.kind == 0) (record { w0 = 0; w1 = 0 }) d.registers.psw (record { w0 = omega arith; w1 = omega arith }) (record { w0 = h.w0; w1 = h.w1 })
+old_pair : (k : Option Interruption) (p : Psw) → IsPair p → IsPair (old_psw k p)
+old_pair None p h = record { w0 = omega arith; w1 = omega arith }
+old_pair (Some k) p h = h
+
+-- ---- numbers of interruptions and of what is taken
+
+interruption_below : (k : Option Interruption) → interruption_number k < 256
+interruption_below None = omega arith
+interruption_below (Some Program) = omega arith
+interruption_below (Some SupervisorCall) = omega arith
+interruption_below (Some External) = omega arith
+interruption_below (Some Restart) = omega arith
+
+request_below : (q : Request) → request_number q < 256
+request_below requested.Key = omega arith
+request_below (requested.Malfunction c) = omega arith
+request_below (requested.Emergency c) = omega arith
+request_below (requested.ExternalCall c) = omega arith
+request_below requested.Comparator = omega arith
+request_below requested.Timer = omega arith
+
+taken_below : (t : Option Taken) → taken_number t < 256
+taken_below None = omega arith
+taken_below (Some (taking.Request q)) = request_below q
+taken_below (Some taking.Restart) = omega arith
 
 -- ---- pieces
 
@@ -147,8 +177,7 @@ unfolding fields registers_after
 fits m i d e h =
     let r : Registers = m.registers i in
     let psw = psw_pair r d m.storage h in
-    let old = old_pair d m.storage h in
-    let kind = e.kind in
+    let old = old_pair d.interruption d.registers.psw (record { w0 = h.w0; w1 = h.w1 }) in
     let stored = e.stored in
     let eight = e.blocks in
     record {
@@ -156,14 +185,16 @@ fits m i d e h =
       generals = h.generals;
       control = h.control;
       controls = h.controls;
+      clocks = h.clocks;
+      four = h.four;
       w0 = psw.w0;
       w1 = psw.w1;
       prefix = h.prefix;
-      kind = omega (arith, kind);
+      kind = interruption_below d.interruption;
       old0 = old.w0;
       old1 = old.w1;
       identification = h.identification;
-      request = h.request;
+      request = taken_below d.taken;
       sender = h.sender;
       order_to = h.order_to;
       order = h.order;

@@ -12,6 +12,7 @@ fn call() -> Fields {
                 w1: 0x8000_1000,
             },
             prefix: 0x2000,
+            clocks: [0x0102_0304_0506_0708, 0x3000, 0, 0],
         },
         kind: 2,
         old: Psw {
@@ -42,6 +43,8 @@ fn a_packet_tells_its_fields(rt: HostRuntime) {
     let p = told(&call());
     assert_eq!(rt; p.psw().w1, 0x8000_1000);
     assert_eq!(rt; p.general(15), 0x0102_0304);
+    assert_eq!(rt; p.clock_word(0), 0x0102_0304_0506_0708);
+    assert_eq!(rt; p.clock_word(1), 0x3000);
     assert_eq!(rt; p.kind(), 2);
     assert_eq!(rt; p.identification(), 0x0002_00FF);
     assert_eq!(rt;

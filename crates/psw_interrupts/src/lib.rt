@@ -4,9 +4,10 @@
 mod events_due;
 mod swaps;
 
+pub use esa_model::events::Interruption;
 pub use esa_model::machine::{CpuNo, Due, Psw, Registers, Request};
 pub use events_due::{due, early_fault, enabled};
-pub use swaps::{Swap, swap_of};
+pub use swaps::{Swap, places_of, swap_of};
 
 #[cfg(test)]
 mod tests;

@@ -1,6 +1,10 @@
 pub mod Put
 pub mod Ones
 pub mod Log
+pub mod Noted
+pub mod PiecesStored
+pub mod Signals
 pub mod Tail
 pub mod Runs
 pub mod RunsStored
+pub mod AfterStores

@@ -1,15 +1,10 @@
 -- The log of stores: its order, where an entry goes, and that it tells each byte that differs.
-use Rattle.std.proofs.Common.{◌≡◌, ◌≢◌, ℕ, zero, suc, ◌+◌, ◌-◌, ◌<◌, ◌≤◌, Bool, true, false, List, [], ◌∷◌, ◌++◌, length, get_or, take, refl, sym, ap, ◌∙◌, subst, inl, inr, arith}
+use Rattle.std.proofs.Common.{◌≡◌, ℕ, zero, suc, ◌+◌, ◌-◌, ◌<◌, ◌≤◌, Bool, true, false, List, [], ◌∷◌, ◌++◌, length, get_or, take, refl, sym, ap, ◌∙◌, inl, inr, arith}
 use Rattle.std.specs.Prelude.{◌==◌, nat_lt, if◌then◌else◌, slice_set, slice_get, Option, Some, None}
 use Rattle.std.specs.List.{insert}
 use Rattle.std.proofs.lemmas.Bool.{cases_lt}
 use Rattle.std.proofs.lemmas.List.{take_more}
-use Rattle.std.proofs.lemmas.Option.{unwrap_or-slice_get}
-use Rattle.std.specs.Option.{unwrap_or}
-use Rattle.esa_model.specs.declared.machine.Signals.{Signals}
-use Rattle.esa_model.specs.declared.machine.CpuState.TheVariants.{CheckStop}
-use Rattle.esa_model.specs.Bus.{taken, signals_of, quiet}
-use Rattle.esa_model.specs.Trace.{changed_from, changed_bytes}
+use Rattle.esa_model.specs.Changes.{changed_from, changed_bytes}
 use Rattle.result_packet.specs.declared.change_log.Touched.{Touched}
 use Rattle.result_packet.specs.Changes.{IsRising, count_below, logged, put_at, differing, Tells, end, kept, stored}
 
@@ -105,7 +100,7 @@ length_logged a v x (t ∷ ts) = let e = length_logged a v x ts in grind (arith,
 
 -- ---- the log tells what differs
 
-eq_self : (n : ℕ) → n == n ≡ true
+pub eq_self : (n : ℕ) → n == n ≡ true
 eq_self n = grind arith
 
 pub told : (p : ℕ) (os ns : List ℕ) (ts : List Touched) → Tells p os ns ts → changed_from p os ns ≡ differing ts
@@ -118,43 +113,13 @@ at_least : (p : ℕ) (os ns : List ℕ) (t : Touched) (ts : List Touched) → Te
 at_least p os ns t ts (kept q n us vs us' h) = let e = at_least (suc q) us vs t ts h in omega (arith, e)
 at_least p os ns t ts (stored q o n us vs us' h) = omega arith
 
-in_front : (p a v x : ℕ) (os ns : List ℕ) (ts : List Touched) → Tells p os ns ts → a < p → logged a v x ts ≡ record { at = a; before = v; now = x } ∷ ts
+pub in_front : (p a v x : ℕ) (os ns : List ℕ) (ts : List Touched) → Tells p os ns ts → a < p → logged a v x ts ≡ record { at = a; before = v; now = x } ∷ ts
 in_front p a v x os ns [] h l = refl
 in_front p a v x os ns (t ∷ ts) h l =
     let low = at_least p os ns t ts h in
     let e1 : t.at == a ≡ false = grind (arith, low, l) in
     let e2 : nat_lt a t.at ≡ true = grind (arith, low, l) in
     rw (e1, e2) refl
-
-pub told_more : (p k v x : ℕ) (os ns : List ℕ) (ts : List Touched) → Tells p os ns ts → k < length ns → get_or ns k 0 ≡ v
-    → Tells p os (slice_set ns k x) (logged (p + k) v x ts)
-told_more p k v x os ns ts (end q) l g = absurd (omega (arith, l))
-told_more p zero v x os ns ts (kept q n us vs ts' h) l g =
-    let e : q + 0 ≡ q = omega arith in
-    let eq : n ≡ v = cc in
-    let f = in_front (suc q) q v x us vs ts' h (omega arith) in
-    rw (e, f, ← eq) (stored q n x us vs ts' h)
-told_more p (suc k) v x os ns ts (kept q n us vs ts' h) l g =
-    let e : q + suc k ≡ suc q + k = omega arith in
-    rw e (kept q n us (slice_set vs k x) (logged (suc q + k) v x ts') (told_more (suc q) k v x us vs ts' h (omega (arith, l)) g))
-told_more p zero v x os ns ts (stored q o n us vs ts' h) l g =
-    let e : q + 0 ≡ q = omega arith in
-    let eq = eq_self q in
-    rw (e, eq) (stored q o x us vs ts' h)
-told_more p (suc k) v x os ns ts (stored q o n us vs ts' h) l g =
-    let e1 : q == q + suc k ≡ false = grind arith in
-    let e2 : nat_lt (q + suc k) q ≡ false = grind arith in
-    let e : q + suc k ≡ suc q + k = omega arith in
-    let rest : Tells (suc q) us (slice_set vs k x) (logged (q + suc k) v x ts') =
-    subst (λ (j : ℕ). Tells (suc q) us (slice_set vs k x) (logged j v x ts')) (sym e) (told_more (suc q) k v x us vs ts' h (omega (arith, l)) g) in
-    rw (e1, e2) (stored q o n us (slice_set vs k x) (logged (q + suc k) v x ts') rest)
-
-pub told_store : (olds s : List ℕ) (ts : List Touched) (a v x : ℕ) → a < length s → v ≡ unwrap_or (slice_get s a) 0 → Tells 0 olds s ts
-    → Tells 0 olds (slice_set s a x) (logged a v x ts)
-told_store olds s ts a v x l g h =
-    let e : 0 + a ≡ a = omega arith in
-    subst (λ (j : ℕ). Tells 0 olds (slice_set s a x) (logged j v x ts)) e
-    (told_more 0 a v x olds s ts h l (sym (unwrap_or-slice_get s a 0) ∙ sym g))
 
 -- nothing differs from itself
 pub told_none : (p : ℕ) (ns : List ℕ) → Tells p ns ns []
@@ -172,21 +137,3 @@ pub set_outside : (s : List ℕ) (a x : ℕ) → length s ≤ a → s ≡ slice_
 set_outside [] a x h = refl
 set_outside (y ∷ s) zero x h = absurd (omega (arith, h))
 set_outside (y ∷ s) (suc a) x h = ap (λ (ys : List ℕ). y ∷ ys) (set_outside s a x (omega (arith, h)))
-
--- ---- signals put back
-
-pub no_request : (bus : List Signals) (i : ℕ) (q : Signals) → bus ≡ slice_set bus i (unwrap_or (slice_get bus i) q)
-no_request [] i q = refl
-no_request (s ∷ bus) zero q = refl
-no_request (s ∷ bus) (suc i) q = ap (λ (ss : List Signals). s ∷ ss) (no_request bus i q)
-
-pub other_request : (request sender i : ℕ) (bus : List Signals) → request ≢ 1 → request ≢ 2 → request ≢ 3 → request ≢ 4 → request ≢ 5
-    → bus ≡ taken request sender i bus
-unfolding taken signals_of
-other_request request sender i bus h1 h2 h3 h4 h5 =
-    let e1 : request == 1 ≡ false = grind (arith, h1) in
-    let e2 : request == 2 ≡ false = grind (arith, h2) in
-    let e3 : request == 3 ≡ false = grind (arith, h3) in
-    let e4 : request == 4 ≡ false = grind (arith, h4) in
-    let e5 : request == 5 ≡ false = grind (arith, h5) in
-    rw (e1, e2, e3, e4, e5) (no_request bus i (quiet CheckStop))

@@ -1,18 +1,21 @@
 -- What a packet stores makes few stretches: its two pieces at most 129, the old PSW and the identification,
 -- which begin at even addresses, four and two.
-use Rattle.std.proofs.Common.{◌≡◌, ℕ, suc, ◌+◌, ◌/◌, ◌%◌, ◌≤◌, Bool, false, List, [], ◌∷◌, length, ap, ◌∙◌, arith}
-use Rattle.std.specs.Prelude.{slice_set}
+use Rattle.std.proofs.Common.{◌≡◌, ℕ, suc, ◌+◌, ◌/◌, ◌%◌, ◌≤◌, Bool, false, List, [], ◌∷◌, length, refl, ap, ◌∙◌, arith}
+use Rattle.std.specs.Prelude.{slice_set, Option, Some, None}
 use Rattle.esa_model.specs.declared.changes.Changed.{Changed}
+use Rattle.esa_model.specs.declared.events.Interruption.{Interruption}
+use Rattle.esa_model.specs.declared.events.Interruption.TheVariants.{Program, SupervisorCall, External, Restart}
 use Rattle.esa_model.specs.declared.machine.Registers.{Registers}
 use Rattle.esa_model.specs.declared.machine.Psw.{Psw}
 use Rattle.esa_model.specs.Psw.{wrapped}
 use Rattle.esa_model.specs.Access.{place, absolute, written}
-use Rattle.esa_model.specs.Machine.{old_bytes, identification_bytes}
+use Rattle.esa_model.specs.Machine.{psw_bytes, identification_bytes, swap_stored}
 use Rattle.esa_model.specs.Places.{old_at, identification_at}
-use Rattle.esa_model.specs.Unit.{Done}
 use Rattle.esa_model.specs.Packet.{Fields, read}
-use Rattle.esa_model.specs.Apply.{piece, first_bytes, second_bytes, swap, applied_storage}
-use Rattle.esa_model.specs.Trace.{stretches, changed_bytes}
+use Rattle.esa_model.specs.PacketCodes.{interruption_of}
+use Rattle.esa_model.specs.Apply.{piece, first_bytes, second_bytes, applied_storage}
+use Rattle.esa_model.specs.Changes.{stretches, changed_bytes}
+use Rattle.result_packet.specs.Applied.{pieces_stored}
 use Rattle.result_packet.proofs.Runs.{runs, no_runs, stretches_runs, runs_set, runs_set_two, runs_piece}
 use Rattle.result_packet.proofs.Tail.{pieces_short}
 
@@ -48,26 +51,38 @@ runs_written r b os (x ∷ y ∷ xs) ns at h =
 
 -- ---- the parts of a packet
 
-old_even : (kind : ℕ) → old_at kind % 2 ≡ 0
-old_even kind = grind arith
+pub psw_short : (p : Psw) → length (psw_bytes p) ≤ 8
+psw_short p = grind arith
 
-identification_even : (kind : ℕ) → identification_at kind % 2 ≡ 0
-identification_even kind = grind arith
+pub identification_short : (k : Interruption) (identification : ℕ) → length (identification_bytes k identification) ≤ 4
+identification_short Program identification = grind arith
+identification_short SupervisorCall identification = grind arith
+identification_short External identification = grind arith
+identification_short Restart identification = grind arith
 
-old_short : (d : Done) → length (old_bytes d) ≤ 8
-old_short d = grind arith
+old_even : (k : Interruption) → old_at k % 2 ≡ 0
+old_even Program = refl
+old_even SupervisorCall = refl
+old_even External = refl
+old_even Restart = refl
 
-identification_short : (d : Done) → length (identification_bytes d) ≤ 4
-identification_short d = grind arith
+identification_even : (k : Interruption) → identification_at k % 2 ≡ 0
+identification_even Program = refl
+identification_even SupervisorCall = refl
+identification_even External = refl
+identification_even Restart = refl
 
-runs_swap : (r : Registers) (d : Done) (os ns : List ℕ)
-    → runs false os (written r (identification_at d.kind) (identification_bytes d) (written r (old_at d.kind) (old_bytes d) ns)) ≤ runs false os ns + 6
-runs_swap r d os ns =
-    let old = runs_written r false os (old_bytes d) ns (old_at d.kind) (old_even d.kind) in
-    let more = runs_written r false os (identification_bytes d) (written r (old_at d.kind) (old_bytes d) ns) (identification_at d.kind) (identification_even d.kind) in
-    let eight = old_short d in
-    let four = identification_short d in
-    omega (arith, old, more, eight, four)
+runs_swap : (r : Registers) (k : Option Interruption) (old : Psw) (identification : ℕ) (os ns : List ℕ)
+    → runs false os (swap_stored r k old identification ns) ≤ runs false os ns + 6
+runs_swap r None old identification os ns = omega arith
+runs_swap r (Some k) old identification os ns =
+    let first : List ℕ = psw_bytes old in
+    let second : List ℕ = identification_bytes k identification in
+    let one = runs_written r false os first ns (old_at k) (old_even k) in
+    let more = runs_written r false os second (written r (old_at k) first ns) (identification_at k) (identification_even k) in
+    let eight = psw_short old in
+    let four = identification_short k identification in
+    omega (arith, one, more, eight, four)
 
 runs_pieces : (os first second : List ℕ) (a b : ℕ) → length first + length second ≤ 256 → runs false os (piece b second (piece a first os)) ≤ 129
 runs_pieces os first second a b h =
@@ -81,7 +96,7 @@ unfolding applied_storage
 runs_applied r p storage =
     let f : Fields = read p in
     let pieces = runs_pieces storage (first_bytes f) (second_bytes f) f.first_at f.second_at (pieces_short p) in
-    let all = runs_swap r (swap f) storage (piece f.second_at (second_bytes f) (piece f.first_at (first_bytes f) storage)) in
+    let all = runs_swap r (interruption_of f.kind) f.old f.identification storage (pieces_stored f storage) in
     omega (arith, pieces, all)
 
 pub stretches_few : (r : Registers) (p before after : List ℕ) (cs : List Changed) → after ≡ applied_storage r (read p) before

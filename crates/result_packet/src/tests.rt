@@ -1,7 +1,13 @@
-// The layout of packets and latches, and one packet that does everything.
-use crate::{Console, FetchLatch, Packet, Side, StoreLatch};
+// The layout of packets and latches, one packet that does everything, and the new PSW of each kind.
+ghost use Rattle.std.specs.Prelude.{◌<◌, ◌≤◌, length};
+
+use crate::{
+    Console, FetchLatch, Packet, Piece, Side, StoreLatch, interruption_of, key_set_of, psw_left,
+    taken_of,
+};
 use abs_storage::AbsStorage;
-use esa_model::machine::{CpuNo, CpuState, Psw, Registers};
+use esa_model::events::{Interruption, KeySet, Taken};
+use esa_model::machine::{CpuNo, CpuState, Psw, Registers, Request};
 use sigp_bus::Bus;
 use std::alloc::Global;
 use std::test::Fail;
@@ -17,6 +23,8 @@ fn layout(rt: HostRuntime) {
     p.set_general(15, 0x0102_0304);
     p.set_console_count(256);
     p.set_block(7, 0xABCD);
+    p.set_clock_word(0, 0x0102_0304_0506_0708);
+    p.set_clock_word(3, 0xFF);
     p.set_tail_byte(255, 0xEE);
     p.flip(0);
     p.flip(8 * 511 + 7);
@@ -24,8 +32,31 @@ fn layout(rt: HostRuntime) {
     assert_eq!(rt; [p.byte(68), p.byte(71)], [1, 4]);
     assert_eq!(rt; [p.byte(162), p.byte(163)], [1, 0]);
     assert_eq!(rt; [p.byte(192), p.byte(193), p.byte(194)], [0xAB, 0xCD, 0]);
+    assert_eq!(rt; [p.byte(195), p.byte(196), p.byte(203)], [0, 1, 8]);
+    assert_eq!(rt; [p.byte(227), p.byte(228)], [0xFF, 0]);
+    assert_eq!(rt; p.clock_word(0), 0x0102_0304_0506_0708);
     assert_eq!(rt; p.tail_byte(255), 0xEF);
     assert_eq!(rt; p.general(15), 0x0102_0304);
+}
+
+/// The numbers of the last interruption, of the last request and of no key, and those after them.
+#[test]
+fn numbers(rt: HostRuntime) {
+    assert_eq!(rt; interruption_of(4), Some(Interruption::Restart));
+    assert_eq!(rt; interruption_of(5), None);
+    assert_eq!(rt;
+        taken_of(4, 7),
+        Some(Taken::Request(Request::ExternalCall(CpuNo(7))))
+    );
+    assert_eq!(rt; taken_of(5, 7), Some(Taken::Restart));
+    assert_eq!(rt; taken_of(7, 7), Some(Taken::Request(Request::Timer)));
+    assert_eq!(rt; taken_of(8, 7), None);
+    let set = KeySet {
+        block: 0xFFFE,
+        key: 0x30,
+    };
+    assert_eq!(rt; key_set_of(0xFFFE, 0x30), Some(set));
+    assert_eq!(rt; key_set_of(0xFFFF, 0x30), None);
 }
 
 #[test]
@@ -55,12 +86,14 @@ fn new_side(alloc: Global) -> Result<Side, Fail> {
             keys,
             bus,
             console: Console::new(bytes),
+            clock: 0x5000,
         }),
         _ => Err("no memory".into()),
     }
 }
 
-/// Two bytes over a page border, a program interruption, a key, an order, two bytes of console input.
+/// Two bytes over a page border, a program interruption, a key, an order, two bytes of console
+/// input.
 fn eventful() -> Packet {
     let mut p = Packet::zeros();
     p.set_psw(Psw {
@@ -90,18 +123,55 @@ fn eventful() -> Packet {
     p
 }
 
+fn registers() -> Registers {
+    Registers {
+        general: [1; 16],
+        control: [1; 16],
+        psw: Psw {
+            w0: 0,
+            w1: 0x8000_1000,
+        },
+        prefix: 0x4000,
+        clocks: [1; 4],
+    }
+}
+
+/// The place of a piece, and its byte number `n`.
+fn stored_by(pieces: &[Piece], k: usize, n: usize) -> Option<(u32, u8)> {
+    let piece = pieces.get(k)?;
+    let byte = piece.bytes.as_slice().get(n)?;
+    Some((piece.at, *byte))
+}
+
+/// The two pieces, and those of the interruption in the prefix's page; without that page the last
+/// two are left out.
+#[test]
+fn pieces(rt: HostRuntime) {
+    let stores = eventful().stores(0x4000, 0x2_0000);
+    assert_eq!(rt; stores.len(), 4);
+    for (k, n, at, byte) in [
+        (0, 0, 0x1FFF, 0xAA),
+        (1, 0, 0x2000, 0x00),
+        (2, 2, 0x4028, 0x30),
+        (3, 3, 0x408C, 0x08),
+    ] {
+        assert_eq!(rt;
+            stored_by(stores.as_slice(), k, n),
+            Some((at, byte)),
+            "piece {k}"
+        );
+    }
+    assert_eq!(rt; eventful().stores(0x4000, 0x4000).len(), 2);
+}
+
 #[test]
 fn applied(rt: HostRuntime) -> Result<(), Fail> {
     let mut side = new_side(rt.alloc())?;
     let Ok(mut storage) = AbsStorage::new(rt.alloc(), 0x2_0000) else {
         return Err("no memory".into());
     };
-    let mut r = Registers {
-        general: [1; 16],
-        control: [1; 16],
-        psw: Psw { w0: 0, w1: 0 },
-        prefix: 0,
-    };
+    let mut r = registers();
+    r.prefix = 0;
     let written = eventful().apply(CpuNo(0), &mut r, &mut storage, &mut side);
     let changed = written.changed.as_slice();
     assert_eq!(rt; changed.len(), 8);
@@ -131,6 +201,44 @@ fn applied(rt: HostRuntime) -> Result<(), Fail> {
     assert_eq!(rt; side.console.left(), 1);
     assert_eq!(rt; side.console.ahead(1), None);
     assert_eq!(rt; r.psw.w1, 0x8001_0080);
-    assert_eq!(rt; r.general[0], 0);
+    assert_eq!(rt; (r.general[0], r.clocks[0]), (0, 0));
+    assert_eq!(rt; side.clock, 0x5000);
+    Ok(())
+}
+
+fn put(storage: &mut AbsStorage, at: u32, bytes: &[u8])
+    requires low { at < 256 }
+    requires short { length bytes.now ≤ 8 }
+{
+    for k in 0..bytes.len() {
+        let _ = storage.store(at + k as u32, bytes[k]);
+    }
+}
+
+/// The PSW after an event of each kind, where the bytes that it stores overlap the new PSW of an
+/// SVC and the one of a program interruption.
+#[test]
+fn new_psws(rt: HostRuntime) -> Result<(), Fail> {
+    let Ok(mut storage) = AbsStorage::new(rt.alloc(), 0x2_0000) else {
+        return Err("no memory".into());
+    };
+    put(&mut storage, 0, &[0, 8, 0, 0, 0x80, 0, 0, 0x40]);
+    put(&mut storage, 88, &[0, 8, 0, 1, 0x80, 0, 1, 0x40]);
+    put(&mut storage, 96, &[0, 8, 0, 2, 0x80, 0, 2, 0x40]);
+    put(&mut storage, 104, &[0, 8, 0, 3, 0x80, 0, 3, 0x40]);
+    let mut r = registers();
+    r.prefix = 0;
+    let stored = [9, 8, 7, 6, 5, 4, 3, 2];
+    for (number, w0, w1) in [
+        (0, 0x0000_0000, 0x8000_1000),
+        (1, 0x0504_0302, 0x8000_0340),
+        (2, 0x0008_0002, 0x0908_0706),
+        (3, 0x0008_0001, 0x8000_0140),
+        (4, 0x0008_0000, 0x8000_0040),
+    ] {
+        let kind = interruption_of(number);
+        let psw = psw_left(&r, &mut storage, 100, &stored, kind, r.psw, 0x0002_0007);
+        assert_eq!(rt; psw, Psw { w0, w1 }, "kind {number}");
+    }
     Ok(())
 }

@@ -1,57 +1,46 @@
-// Fields of the PSW and addresses, as rows put them.
+// Addresses and condition codes, as rows put them.
 ghost use Rattle.std.specs.Prelude.{◌≡◌, ◌<◌, ◌^◌, slice_index};
-ghost use Rattle.esa_model.specs.Psw.{with_address, with_code};
 ghost use Rattle.esa_model.specs.Line.{advanced, coded, first_at, indexed, second_at};
 
+use esa_model::codes::STAYS;
 use esa_model::instructions::Decoded;
-use esa_model::machine::{Psw, Registers};
-use operand_access::{effective, wrap};
-
-/// The PSW with another instruction address, in its mode.
-pub fn with_next(p: Psw, a: u32) -> Psw
-    requires { a < 2 ^ 31 }
-    ensures { result ≡ with_address p a }
-{
-    Psw {
-        w0: p.w0,
-        w1: p.w1 / 0x8000_0000 * 0x8000_0000 + a,
-    }
-}
-
-/// The PSW with a condition code.
-pub fn psw_coded(p: Psw, code: u8) -> Psw
-    requires { code < 4 }
-    ensures { result ≡ with_code p code }
-{
-    Psw {
-        w0: p.w0 / 0x4000 * 0x4000 + code as u32 * 0x1000 + p.w0 % 0x1000,
-        w1: p.w1,
-    }
-}
+use esa_model::machine::Registers;
+use operand_access::effective;
 
 /// The registers with the address of the next instruction, which is `len` bytes on.
 #[tactic(auto, unfolding(esa_model::specs::Line::advanced))]
 pub fn after(r: &Registers, len: u8) -> Registers
     ensures { result ≡ advanced r.now len }
 {
-    let mut out = *r;
-    out.psw = with_next(
-        r.psw,
-        wrap(r.psw, (r.psw.w1 % 0x8000_0000) as u64 + len as u64),
-    );
-    out
+    let next = r.psw.wrapped(u64::from(r.psw.address()) + u64::from(len));
+    Registers {
+        psw: r.psw.with_address(next),
+        ..*r
+    }
 }
 
-/// The registers with the address of the next instruction and a condition code, 4 where that stays.
+/// The registers with a condition code, or the one that they have where it stays.
+pub(crate) fn with_code(r: Registers, code: u8) -> Registers
+    requires { code < 5 }
+    ensures { result ≡ coded r code }
+{
+    if code == STAYS {
+        r
+    } else {
+        Registers {
+            psw: r.psw.with_condition_code(code),
+            ..r
+        }
+    }
+}
+
+/// The registers with the address of the next instruction and a condition code, or `STAYS` in its
+/// place.
 pub fn after_coded(r: &Registers, len: u8, code: u8) -> Registers
     requires { code < 5 }
     ensures { result ≡ coded (advanced r.now len) code }
 {
-    let mut out = after(r, len);
-    if code != 4 {
-        out.psw = psw_coded(out.psw, code);
-    }
-    out
+    with_code(after(r, len), code)
 }
 
 /// A general register.

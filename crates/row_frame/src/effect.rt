@@ -1,10 +1,14 @@
 // What an operation does.
 ghost use Rattle.std.specs.Prelude.{◌≡◌, ◌+◌, ◌<◌};
-ghost use Rattle.esa_model.specs.Line.{ended, interrupts_after, leaves, pair_valued, stores, valued, with_pair, with_value};
+ghost use Rattle.esa_model.specs.Line.{ended, interrupts_after, is_overflow as is_any_overflow};
+ghost use Rattle.esa_model.specs.Line.{leaves, pair_valued, refuses, stores, valued};
+ghost use Rattle.esa_model.specs.Line.{with_pair, with_value};
 ghost use Rattle.row_frame.specs.Made.{IsPlain, IsQuiet};
 
-use crate::addresses::{after, psw_coded};
+use crate::addresses::{after, with_code};
 use arrayvec::ArrayVec;
+use esa_model::codes::{DECIMAL_OVERFLOW, FIXED_OVERFLOW};
+use esa_model::events::{Interruption, KeySet, SentOrder};
 use esa_model::instructions::Decoded;
 use esa_model::machine::{Psw, Registers, Value};
 use std::marker::Model;
@@ -18,14 +22,12 @@ pub struct Effect {
     pub console_out: ArrayVec<u8, 256>,
     /// How many bytes of the console input are read, where it is read.
     pub console_in: Option<u16>,
-    /// The block whose key is set, or X'FFFF'.
-    pub block: u16,
-    pub key: u8,
-    /// An order to another CPU that was accepted, or 0, and that CPU.
-    pub order: u8,
-    pub order_to: u8,
-    /// The interruption after it: 0 none, 1 program, 2 SVC; and its code.
-    pub kind: u8,
+    pub set_key: Option<KeySet>,
+    /// An order to another CPU that was accepted.
+    pub sent: Option<SentOrder>,
+    /// The interruption after it, program or supervisor call.
+    pub interruption: Option<Interruption>,
+    /// The code of that interruption.
     pub code: u8,
     /// The program code that suppresses it, or 0.
     pub fault: u8,
@@ -36,7 +38,17 @@ impl Model for Effect {
 
     ghost Value = { What };
 
-    ghost view = { λ e. record { registers = e.registers; stored = e.stored.items; console_out = e.console_out.items; console_in = e.console_in; block = e.block; key = e.key; order = e.order; order_to = e.order_to; kind = e.kind; code = e.code; fault = e.fault } };
+    ghost view = { λ e. record {
+      registers = e.registers;
+      stored = e.stored.items;
+      console_out = e.console_out.items;
+      console_in = e.console_in;
+      set_key = e.set_key;
+      sent = e.sent;
+      interruption = e.interruption;
+      code = e.code;
+      fault = e.fault;
+    } };
 }
 
 /// The registers alone.
@@ -48,11 +60,9 @@ pub fn leave(registers: Registers) -> Effect
         stored: ArrayVec::new(),
         console_out: ArrayVec::new(),
         console_in: None,
-        block: 0xFFFF,
-        key: 0,
-        order: 0,
-        order_to: 0xFF,
-        kind: 0,
+        set_key: None,
+        sent: None,
+        interruption: None,
         code: 0,
         fault: 0,
     }
@@ -62,18 +72,27 @@ pub fn leave(registers: Registers) -> Effect
 pub fn store(registers: Registers, stored: ArrayVec<u8, 256>) -> Effect
     ensures { result ≡ stores registers stored.items }
 {
-    let mut e = leave(registers);
-    e.stored = stored;
-    e
+    let mut effect = leave(registers);
+    effect.stored = stored;
+    effect
 }
 
 /// The registers, and bytes for the console.
 pub fn write(registers: Registers, console_out: ArrayVec<u8, 256>) -> Effect
     ensures { result ≡ record (leaves registers) { console_out = console_out.items } }
 {
-    let mut e = leave(registers);
-    e.console_out = console_out;
-    e
+    let mut effect = leave(registers);
+    effect.console_out = console_out;
+    effect
+}
+
+/// Nothing but a program exception.
+pub fn refuse(registers: Registers, fault: u8) -> Effect
+    ensures { result ≡ refuses registers fault }
+{
+    let mut effect = leave(registers);
+    effect.fault = fault;
+    effect
 }
 
 /// The registers with a value in R1, its condition code, and the address of the next instruction.
@@ -85,10 +104,7 @@ fn put_value(r: &Registers, d: &Decoded, len: u8, v: &Value) -> Registers
 {
     let mut out = after(r, len);
     out.general[d.r1 as usize] = v.word;
-    if v.cc != 4 {
-        out.psw = psw_coded(out.psw, v.cc);
-    }
-    out
+    with_code(out, v.cc)
 }
 
 /// The same with a pair in R1, whose number is even, and its odd neighbour.
@@ -101,40 +117,41 @@ fn put_pair(r: &Registers, d: &Decoded, len: u8, v: &Value) -> Registers
     let mut out = after(r, len);
     out.general[d.r1 as usize] = v.word;
     out.general[d.r1 as usize + 1] = v.low;
-    if v.cc != 4 {
-        out.psw = psw_coded(out.psw, v.cc);
-    }
-    out
+    with_code(out, v.cc)
 }
 
-/// Whether a code interrupts after completion.
-fn interrupts(p: Psw, fault: u8) -> bool
-    ensures { result ≡ interrupts_after p fault }
+/// Whether a program code is that of a fixed-point or of a decimal overflow.
+fn is_overflow(fault: u8) -> bool
+    ensures { result ≡ is_any_overflow fault }
 {
-    (fault == 8 && p.w0 / 0x800 % 2 == 1) || (fault == 10 && p.w0 / 0x400 % 2 == 1)
+    fault == FIXED_OVERFLOW || fault == DECIMAL_OVERFLOW
 }
 
-/// The effect that ends with a program code or 0.
-fn end(registers: Registers, interrupts: bool, fault: u8) -> Effect
+/// Whether an overflow interrupts after completion, by its bit of the program mask.
+/// Source: Principles of Operation, chapter on interruptions (program).
+pub fn interrupts(psw: Psw, fault: u8) -> bool
+    ensures { result ≡ interrupts_after psw fault }
+{
+    (fault == FIXED_OVERFLOW && psw.overflow_interrupts())
+        || (fault == DECIMAL_OVERFLOW && psw.decimal_interrupts())
+}
+
+/// The effect that ends with a program code or 0: an overflow completes, and then interrupts or
+/// not; any other code suppresses.
+pub fn end(registers: Registers, interrupts: bool, fault: u8) -> Effect
     ensures effect { result ≡ ended registers interrupts fault }
     ensures plain { IsPlain result }
     ensures quiet { IsQuiet result }
 {
-    let is_late = fault == 8 || fault == 10;
-    let interrupts = is_late && interrupts;
-    Effect {
-        registers,
-        stored: ArrayVec::new(),
-        console_out: ArrayVec::new(),
-        console_in: None,
-        block: 0xFFFF,
-        key: 0,
-        order: 0,
-        order_to: 0xFF,
-        kind: if interrupts { 1 } else { 0 },
-        code: if interrupts { fault } else { 0 },
-        fault: if is_late { 0 } else { fault },
+    if !is_overflow(fault) {
+        return refuse(registers, fault);
     }
+    let mut effect = leave(registers);
+    if interrupts {
+        effect.interruption = Some(Interruption::Program);
+        effect.code = fault;
+    }
+    effect
 }
 
 /// A value put into R1.

@@ -1,7 +1,7 @@
 use esa_model::instructions::Decoded;
 
-/// An instruction where it stands: its fields, its address and its length in bytes. Under EX the fields
-/// and the address are the target's, the length is that of EX.
+/// An instruction where it stands: its fields, its address and its length in bytes. Under EX the
+/// fields and the address are the target's, the length is that of EX.
 #[derive(Clone, Copy)]
 pub struct Instruction {
     pub decoded: Decoded,

@@ -5,14 +5,13 @@ mod addresses;
 mod bytes;
 mod effect;
 mod instruction;
-mod lists;
 mod operands;
 
-pub use addresses::{
-    after, after_coded, first_of, general_of, indexed_of, psw_coded, second_of, with_next,
-};
+pub use addresses::{after, after_coded, first_of, general_of, indexed_of, second_of};
 pub use bytes::{bytes_of, half_of, listed, word_of};
-pub use effect::{Effect, leave, pair_value, store, value, write};
+pub use effect::{Effect, end, interrupts, leave, pair_value, refuse, store, value, write};
 pub use instruction::Instruction;
-pub use lists::is_listed;
 pub use operands::{no_operands, one, two};
+
+#[cfg(test)]
+mod tests;

@@ -5,7 +5,7 @@ use Rattle.std.specs.Int.Count.{ones as counted}
 use Rattle.std.proofs.lemmas.Nat.{ones-le, ones_cat, zero_from_ones, shr_split, mod_below, shr_below, mul-add-lt, pow-add}
 use Rattle.std.proofs.lemmas.Nat.Bits.{bit_at_and, bit_at-lt, bit_at_lowest, bit_at_above, bit_at_cat_low, bit_at_cat_high, same_from_bits_below}
 use Rattle.std.proofs.lemmas.Bool.{cases_eq}
-use Rattle.esa_model.specs.Code.{ones, ones_where, anywhere, with_bit}
+use Rattle.run_model.specs.Code.{ones, ones_where, anywhere, with_bit}
 use Rattle.runit_ecc.specs.Syndrome.{syndrome, parity, check_parity, parities, mask, check_mask, check_masks}
 use Rattle.runit_ecc.proofs.Syndrome.{bit_at-syndrome, syndrome-lt}
 

@@ -3,9 +3,9 @@ use Rattle.std.proofs.Common.{◌≡◌, ℕ, zero, suc, ◌-◌, ◌%◌, ◌^�
 use Rattle.std.specs.Prelude.{nat_lt}
 use Rattle.std.proofs.lemmas.Bool.Decides.{nat_tests}
 use Rattle.std.proofs.lemmas.Bool.{cases_eq}
-use Rattle.esa_model.specs.declared.readings.Read.{Read}
-use Rattle.esa_model.specs.declared.readings.Read.TheVariants.{Clean, Corrected, Uncorrectable}
-use Rattle.esa_model.specs.Code.{ones, ones_where, with_bit, IsCodeword, flip, Reads, all_checks_even, is_codeword, wrong_position, read_of}
+use Rattle.run_model.specs.declared.readings.Read.{Read}
+use Rattle.run_model.specs.declared.readings.Read.TheVariants.{Clean, Corrected, Uncorrectable}
+use Rattle.run_model.specs.Code.{ones, ones_where, with_bit, IsCodeword, flip, Reads, all_checks_even, is_codeword, wrong_position, read_of}
 use Rattle.runit_ecc.specs.Syndrome.{syndrome}
 use Rattle.runit_ecc.proofs.Syndrome.{syndrome-flip, syndrome_of_codeword, same_from_xor}
 

@@ -3,7 +3,7 @@ use Rattle.std.specs.Int.{bit_at}
 use Rattle.std.specs.Int.Bits.{xor_self, xor_comm, xor_assoc, xor_zero_r, xor_lt}
 use Rattle.std.proofs.lemmas.Nat.Bits.{bit_at_xor, bit_at-lt, bit_at-zero, same_from_bits_below}
 use Rattle.std.proofs.lemmas.Bool.{cases_eq}
-use Rattle.esa_model.specs.Code.{ones_where, anywhere, IsCodeword, distance}
+use Rattle.run_model.specs.Code.{ones_where, anywhere, IsCodeword, distance}
 use Rattle.runit_ecc.specs.Syndrome.{syndrome}
 use Rattle.runit_ecc.proofs.Syndrome.{syndrome_of_codeword, same_from_xor}
 

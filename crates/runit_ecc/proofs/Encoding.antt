@@ -7,7 +7,7 @@ use Rattle.std.specs.Int.Bits.{xor_self, xor_comm, xor_assoc, xor_zero_r, xor_sh
 use Rattle.std.proofs.lemmas.Nat.{mod_below}
 use Rattle.std.proofs.lemmas.Nat.Bits.{bit_at_cat_low, bit_at_cat_high, bit_at_lowest, bit_at-lt}
 use Rattle.std.proofs.lemmas.Bool.Decides.{nat_tests}
-use Rattle.esa_model.specs.Code.{places, value_of, is_check, flip, ones, ones_where, anywhere, IsCodeword, placed, with_checks, encoded}
+use Rattle.run_model.specs.Code.{places, value_of, is_check, flip, ones, ones_where, anywhere, IsCodeword, placed, with_checks, encoded}
 use Rattle.runit_ecc.specs.Syndrome.{syndrome, set_checks}
 use Rattle.runit_ecc.proofs.Syndrome.{flip_other, flip-lt, syndrome-flip, syndrome-lt, ones-flip, codeword_from, bit_at-syndrome}
 use Rattle.runit_ecc.proofs.Segments.{low_digits, check_pow}

@@ -4,8 +4,8 @@ use Rattle.std.specs.Int.{bit_at}
 use Rattle.std.specs.Int.Bits.{xor_zero_r, xor_zero_l}
 use Rattle.std.proofs.lemmas.Nat.Bits.{bit_at_xor, bit_at-zero, bit_at-pow_same, bit_at-pow_other}
 use Rattle.std.proofs.lemmas.Bool.{cases_eq}
-use Rattle.esa_model.specs.declared.readings.Read.TheVariants.{Clean, Corrected, Uncorrectable}
-use Rattle.esa_model.specs.Code.{ones_where, anywhere, ones, highest, IsCodeword, value_of, flip, read_of}
+use Rattle.run_model.specs.declared.readings.Read.TheVariants.{Clean, Corrected, Uncorrectable}
+use Rattle.run_model.specs.Code.{ones_where, anywhere, ones, highest, IsCodeword, value_of, flip, read_of}
 use Rattle.runit_ecc.specs.Syndrome.{syndrome}
 use Rattle.runit_ecc.proofs.Syndrome.{flip_same, flip_other, flip_twice, flip-lt, ones-flip, ones_where-flip_above, syndrome_of_codeword, same_from_xor, odd_is_none, far_even, far_itself}
 use Rattle.runit_ecc.proofs.Distance.{zero_from_none, double, bit_cases, syndrome-xor, ones-xor}

@@ -1,8 +1,8 @@
 -- From what is computed to the definitions: the codeword of a value, and each answer of a reading.
 use Rattle.std.proofs.Common.{◌≡◌, ℕ, ◌-◌, ◌/◌, ◌%◌, ◌^◌, ◌<◌, ◌≤◌, ◌≢◌, sym, ◌∙◌, ap, refl, subst, arith}
-use Rattle.esa_model.specs.declared.readings.Read.{Read}
-use Rattle.esa_model.specs.declared.readings.Read.TheVariants.{Clean, Corrected, Uncorrectable}
-use Rattle.esa_model.specs.Code.{ones, IsCodeword, flip, value_of, places, placed, with_checks, with_parity, encoded, Reads}
+use Rattle.run_model.specs.declared.readings.Read.{Read}
+use Rattle.run_model.specs.declared.readings.Read.TheVariants.{Clean, Corrected, Uncorrectable}
+use Rattle.run_model.specs.Code.{ones, IsCodeword, flip, value_of, places, placed, with_checks, with_parity, encoded, Reads}
 use Rattle.runit_ecc.specs.Syndrome.{syndrome, parity, parities, set_checks}
 use Rattle.runit_ecc.specs.Bounds.{IsValueBelow}
 use Rattle.runit_ecc.proofs.Syndrome.{codeword_from, corrects, odd_is_none, far_odd, far_even, far_itself, far_large, flip-lt}

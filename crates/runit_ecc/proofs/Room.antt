@@ -3,7 +3,7 @@ use Rattle.std.proofs.Common.{◌≡◌, ℕ, zero, suc, ◌+◌, ◌-◌, ◌*�
 use Rattle.std.proofs.Math.Pow.{pow_mono}
 use Rattle.std.proofs.Math.Nat.{mod-eq_of_lt}
 use Rattle.std.proofs.lemmas.Nat.{and_mask, one_shl, pow-add}
-use Rattle.esa_model.specs.Code.{places, value_of, placed}
+use Rattle.run_model.specs.Code.{places, value_of, placed}
 use Rattle.runit_ecc.proofs.Segments.{places_pow, value_next, placed_next, value_room, placed_room}
 
 pub above_number : (j : ℕ) → j < 2 ^ j

@@ -6,7 +6,7 @@ use Rattle.std.specs.Int.{bit_at}
 use Rattle.std.proofs.lemmas.Nat.{and_mask, mod-pow-add, shr-shr, pow-add, div-mul-add}
 use Rattle.std.proofs.lemmas.Nat.Bits.{bit_at_and, bit_at-zero, bit_at_above}
 use Rattle.std.proofs.lemmas.Bool.Decides.{nat_tests}
-use Rattle.esa_model.specs.Code.{places, value_of, is_check, placed}
+use Rattle.run_model.specs.Code.{places, value_of, is_check, placed}
 use Rattle.runit_ecc.proofs.Values.{value_lt, placed_lt}
 
 -- ---- check positions

@@ -6,7 +6,7 @@ use Rattle.std.proofs.lemmas.Nat.{pow_below}
 use Rattle.std.proofs.lemmas.Nat.Bits.{bit_at_xor, bit_at-pow_same, bit_at-pow_other, bit_at-lt, bit_at-zero, same_from_bits_below}
 use Rattle.std.proofs.lemmas.Bool.Decides.{nat_tests}
 use Rattle.std.proofs.lemmas.Bool.{cases_eq}
-use Rattle.esa_model.specs.Code.{ones_where, anywhere, with_bit, IsCodeword, flip}
+use Rattle.run_model.specs.Code.{ones_where, anywhere, with_bit, IsCodeword, flip}
 use Rattle.runit_ecc.specs.Syndrome.{syndrome}
 
 cond_same : (b : Bool) (x : ℕ) → cond b x x ≡ x

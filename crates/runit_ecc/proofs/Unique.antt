@@ -5,7 +5,7 @@ use Rattle.std.specs.Int.Bits.{xor_zero_r, xor_lt}
 use Rattle.std.proofs.lemmas.Nat.{same_from_place}
 use Rattle.std.proofs.lemmas.Nat.Bits.{bit_at_xor, bit_at-lt, bit_at-zero, bit_at_above, bit_at-pow_same}
 use Rattle.std.proofs.lemmas.Bool.{cases_eq, cases_lt}
-use Rattle.esa_model.specs.Code.{ones, ones_where, anywhere, with_bit, IsCodeword, is_check, places, value_of}
+use Rattle.run_model.specs.Code.{ones, ones_where, anywhere, with_bit, IsCodeword, is_check, places, value_of}
 use Rattle.runit_ecc.specs.Syndrome.{syndrome}
 use Rattle.runit_ecc.proofs.Syndrome.{bit_at-syndrome, syndrome_of_codeword, same_from_xor}
 use Rattle.runit_ecc.proofs.Distance.{zero_from_none, syndrome-xor, ones-xor}

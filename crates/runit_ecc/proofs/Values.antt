@@ -4,7 +4,7 @@ use Rattle.std.specs.Int.{bit_at}
 use Rattle.std.proofs.lemmas.Nat.{mul-add-lt, pow-add, shr_split, mod_below, div_below}
 use Rattle.std.proofs.lemmas.Nat.Bits.{bit_at-lt}
 use Rattle.std.proofs.lemmas.Bool.{cases_lt}
-use Rattle.esa_model.specs.Code.{places, value_of, is_check, placed}
+use Rattle.run_model.specs.Code.{places, value_of, is_check, placed}
 
 pub place_lt : (v b k : ℕ) → v < 2 ^ k → b < 2 → b * 2 ^ k + v < 2 ^ (k + 1)
 place_lt v b k h g = let l = mul-add-lt b (2 ^ k) v 2 g h in let e = pow-add 2 k 1 in omega arith

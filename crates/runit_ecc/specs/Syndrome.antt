@@ -1,7 +1,7 @@
 -- What the code computes: the number whose bits are the parities.
 use Rattle.std.specs.Prelude.{ℕ, zero, suc, ◌+◌, ◌*◌, ◌%◌, ◌^◌, ◌==◌, if◌then◌else◌, bit_xor, List, [], ◌∷◌}
 use Rattle.std.specs.Int.{bit_at}
-use Rattle.esa_model.specs.Code.{ones, ones_where, with_bit, flip}
+use Rattle.run_model.specs.Code.{ones, ones_where, with_bit, flip}
 
 -- the numbers of the positions below n that hold a one, combined by exclusive or
 abbrev pub syndrome : ℕ → ℕ → ℕ

@@ -1,11 +1,11 @@
 ghost use Rattle.std.specs.Prelude.{◌≡◌, ◌+◌, ◌-◌, ◌<◌, ◌≤◌, ◌^◌};
-ghost use Rattle.esa_model.specs.Code.{IsCodeword, Reads, read_of, encoded, value_of, places};
+ghost use Rattle.run_model.specs.Code.{IsCodeword, Reads, read_of, encoded, value_of, places};
 ghost use Rattle.runit_ecc.specs.Syndrome.{check_masks};
 ghost use Rattle.runit_ecc.specs.Bounds.{IsValueBelow};
 
 use crate::parity::{changed, parity_of, syndrome_of, with_all_checks};
 use crate::places::{placed_in, value_at};
-use esa_model::readings::Read;
+use run_model::readings::Read;
 
 // The positions below 128 whose number has the bit 2^j, for each j that is named, as a mask: runs of 2^j zeros and
 // 2^j ones in turn.

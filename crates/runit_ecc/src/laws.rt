@@ -1,8 +1,9 @@
 ghost use Rattle.std.specs.Prelude.{◌≡◌, ◌+◌, ◌-◌, ◌<◌, ◌≤◌, ◌^◌, ℕ, true, bit_xor, List, length, slice_index};
 ghost use Rattle.esa_model.specs.declared.machine.Registers.{Registers};
-ghost use Rattle.esa_model.specs.declared.readings.Read.TheVariants.{Clean, Corrected, Uncorrectable};
-ghost use Rattle.esa_model.specs.Code.{IsCodeword, is_codeword, distance, flip, ones, highest, places, value_of, read_of, encoded};
-ghost use Rattle.esa_model.specs.Checkpoint.{word_of, words_of, registers_of};
+ghost use Rattle.run_model.specs.declared.readings.Read.TheVariants.{Clean, Corrected, Uncorrectable};
+ghost use Rattle.run_model.specs.Code.{IsCodeword, is_codeword, distance, flip, ones, highest, places, value_of, read_of, encoded};
+ghost use Rattle.run_model.specs.Checkpoint.{registers_of, word_of};
+ghost use Rattle.runit_ecc.specs.Bounds.{AreRegisters};
 
 /// Two codewords that differ do so in at least four positions.
 pub fn codewords_far_apart()
@@ -43,9 +44,8 @@ pub fn encoded_words()
     ensures value { (n c v : ℕ) → v < 2 ^ places n → value_of n (encoded n c v) ≡ v }
 {}
 
-/// Registers are what their 36 checkpoint words say, and the last of these is zero.
-#[tactic(auto, using(crate::proofs::Restored::restored_from, crate::proofs::Restored::last_word))]
+/// Registers are what their 40 checkpoint words say, and word 35 is zero.
 pub fn registers_restored()
-    ensures restored { (words : List ℕ) (r : Registers) → length r.general ≡ 16 → length r.control ≡ 16 → length words ≡ 36 → ((w : ℕ) → w < 36 → slice_index words w ≡ word_of r w) → registers_of words ≡ r }
-    ensures last { (r : Registers) → word_of r 35 ≡ 0 }
+    ensures restored { (words : List ℕ) (r : Registers) → AreRegisters r → length words ≡ 40 → ((w : ℕ) → w < 40 → slice_index words w ≡ word_of r w) → registers_of words ≡ r }
+    ensures zero { (r : Registers) → word_of r 35 ≡ 0 }
 {}

@@ -9,11 +9,11 @@ mod places;
 
 pub use checkpoint::{registers_of, word_of};
 pub use codewords::Code;
-pub use esa_model::readings::Read;
 pub use laws::{
     codewords_are_tested, codewords_by_value, codewords_far_apart, codewords_flipped,
     encoded_words, one_wrong_position, registers_restored,
 };
+pub use run_model::readings::Read;
 
 #[cfg(test)]
 mod tests {
@@ -83,7 +83,7 @@ mod tests {
     }
 
     #[test]
-    fn words_of_registers(rt: HostRuntime) {
+    fn registers_are_what_their_words_say(rt: HostRuntime) {
         let mut general = [0; 16];
         general[15] = 15;
         let mut control = [0; 16];
@@ -93,16 +93,23 @@ mod tests {
             control,
             psw: Psw { w0: 32, w1: 33 },
             prefix: 34,
+            clocks: [0x2000, 1 << 63, 0, 0],
         };
-        let mut words = [0; 36];
-        for w in 0..36u8 {
+        let mut words = [0; 40];
+        for w in 0..40u8 {
             words[usize::from(w)] = word_of(&r, w);
         }
-        assert_eq!(rt; words[15], 15);
-        assert_eq!(rt; words[16], 16);
-        assert_eq!(rt; words[33], 33);
-        assert_eq!(rt; words[34], 34);
-        assert_eq!(rt; words[35], 0);
+        for (w, value) in [
+            (15, 15),
+            (16, 16),
+            (33, 33),
+            (34, 34),
+            (35, 0),
+            (36, 0x2000),
+        ] {
+            assert_eq!(rt; words[w], value, "word {w}");
+        }
+        assert_eq!(rt; words[37], 0x8000_0000_0000_0000);
         assert!(rt; registers_of(&words) == r);
     }
 }

@@ -1,6 +1,6 @@
 ghost use Rattle.std.specs.Prelude.{◌≡◌, ◌*◌, ◌<◌, ◌≤◌, ◌^◌, ◌==◌, if◌then◌else◌};
 ghost use Rattle.std.specs.Int.{bit_at};
-ghost use Rattle.esa_model.specs.Code.{flip};
+ghost use Rattle.run_model.specs.Code.{flip};
 ghost use Rattle.runit_ecc.specs.Syndrome.{parity, check_parity, parities, check_mask, check_masks, set_checks};
 
 /// The check position with the number 2^j.

@@ -1,5 +1,5 @@
 ghost use Rattle.std.specs.Prelude.{◌≡◌, ◌+◌, ◌*◌, ◌<◌, ◌≤◌, ◌^◌, ◌%◌};
-ghost use Rattle.esa_model.specs.Code.{value_of, placed};
+ghost use Rattle.run_model.specs.Code.{value_of, placed};
 
 use crate::parity::check_position;
 

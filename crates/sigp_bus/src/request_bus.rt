@@ -1,7 +1,8 @@
 // The bus: the signals of each CPU.
-ghost use Rattle.std.specs.Prelude.{◌≡◌, ◌≤◌, IfOk, length, slice_set};
+ghost use Rattle.std.specs.Prelude.{◌≡◌, ◌≤◌, IfOk, Some, length, slice_set};
 ghost use Rattle.esa_model.specs.Bus.{signals_of, taken, keyed, check_stopped};
-ghost use Rattle.esa_model.specs.Event.{signals_at_start, is_pending, request_number, sender_of};
+ghost use Rattle.esa_model.specs.declared.events.Taken.TheVariants as taking;
+ghost use Rattle.esa_model.specs.Event.{signals_at_start, is_pending};
 ghost use Rattle.esa_model.specs.SigpAnswers.{answer_of, after_order};
 
 use crate::signals::{alerted_at, answered, cleared, holds, obeyed, quiet_in};
@@ -13,8 +14,8 @@ use std::marker::Model;
 
 /// The states of 1 to 8 CPUs and the requests that are pending at them.
 ///
-/// A CPU whose number is out of range has nothing pending and is check-stopped, and nothing that is done
-/// to it or by it changes anything.
+/// A CPU whose number is out of range has nothing pending and is check-stopped, and nothing that
+/// is done to it or by it changes anything.
 #[derive(Drop)]
 pub struct Bus {
     cpus: Vec<Signals>,
@@ -87,17 +88,19 @@ impl Bus {
         self.signals(cpu).state
     }
 
-    /// Whether a request is pending at a CPU.
+    /// Whether a request is pending at a CPU. Those of the clock comparator and of the CPU timer
+    /// are no signals, and never are.
     pub fn pending(&self, cpu: CpuNo, r: Request) -> bool
         ensures { result ≡ is_pending (signals_of self.now cpu.0) r }
     {
         holds(&self.signals(cpu), r)
     }
 
-    /// A request was taken: it is no longer pending.
+    /// A request was taken: it is no longer pending. For those of the clock comparator and of the
+    /// CPU timer nothing changes.
     #[tactic(auto, unfolding(esa_model::specs::Bus::taken))]
     pub fn clear(&mut self, cpu: CpuNo, r: Request)
-        ensures { self.new ≡ taken (request_number r) (sender_of r) cpu.0 self.old }
+        ensures { self.new ≡ taken (Some (taking.Request r)) cpu.0 self.old }
     {
         let left = cleared(self.signals(cpu), r);
         self.put(cpu, left);
@@ -113,7 +116,7 @@ impl Bus {
     /// A restart was taken: it is no longer pending, and the CPU is operating.
     #[tactic(auto, unfolding(esa_model::specs::Bus::taken))]
     pub fn restart_taken(&mut self, cpu: CpuNo)
-        ensures { self.new ≡ taken 5 0 cpu.0 self.old }
+        ensures { self.new ≡ taken (Some taking.Restart) cpu.0 self.old }
     {
         let mut left = self.signals(cpu);
         left.restart = false;
@@ -145,7 +148,8 @@ impl Bus {
         }
     }
 
-    /// What an order to a CPU answers: 1 sense, 2 external call, 3 emergency signal, 4 start, 5 stop, 6 restart.
+    /// What an order to a CPU answers: 1 sense, 2 external call, 3 emergency signal, 4 start,
+    /// 5 stop, 6 restart.
     #[tactic(auto, unfolding(esa_model::specs::SigpAnswers::answer_of))]
     pub fn answer(&self, to: u16, order: u8) -> SigpAnswer
         ensures { result ≡ answer_of self.now to order }

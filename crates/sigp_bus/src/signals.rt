@@ -2,8 +2,9 @@
 ghost use Rattle.std.specs.Prelude.{◌≡◌, false, slice_get, slice_set};
 ghost use Rattle.std.specs.Option.{unwrap_or};
 ghost use Rattle.esa_model.specs.Bus.{quiet, without, call_without, ordered};
-ghost use Rattle.esa_model.specs.Event.{has_call, is_pending, request_number, sender_of};
-ghost use Rattle.esa_model.specs.SigpAnswers.{state_status, is_check_stopped, stored, accepted, sensed, answer_in};
+ghost use Rattle.esa_model.specs.Event.{has_call, is_pending};
+ghost use Rattle.esa_model.specs.SigpAnswers.{state_status, is_check_stopped, stored, accepted};
+ghost use Rattle.esa_model.specs.SigpAnswers.{sensed, answer_in};
 ghost use Rattle.sigp_bus.specs.Alerts.{alert};
 
 use esa_model::machine::{CpuNo, CpuState, Request, Signals};
@@ -61,6 +62,7 @@ pub fn holds(signals: &Signals, r: Request) -> bool
         Request::Malfunction(sender) => flag_of(&signals.malfunction, sender.0),
         Request::Emergency(sender) => flag_of(&signals.emergency, sender.0),
         Request::ExternalCall(sender) => is_call_of(signals.external_call, sender),
+        Request::Comparator | Request::Timer => false,
     }
 }
 
@@ -82,7 +84,7 @@ fn call_left(call: Option<CpuNo>, sender: CpuNo) -> Option<CpuNo>
 
 /// The signals with a request no longer pending.
 pub fn cleared(signals: Signals, r: Request) -> Signals
-    ensures { result ≡ without (request_number r) (sender_of r) signals }
+    ensures { result ≡ without r signals }
 {
     let mut left = signals;
     match r {
@@ -92,6 +94,7 @@ pub fn cleared(signals: Signals, r: Request) -> Signals
         Request::ExternalCall(sender) => {
             left.external_call = call_left(left.external_call, sender);
         }
+        Request::Comparator | Request::Timer => {}
     }
     left
 }

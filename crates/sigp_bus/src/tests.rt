@@ -47,6 +47,8 @@ fn requests_with_their_senders(rt: HostRuntime) -> Result<(), Fail> {
         (Request::Emergency(NONE), false),
         (Request::ExternalCall(C), true),
         (Request::ExternalCall(B), false),
+        (Request::Comparator, false),
+        (Request::Timer, false),
     ] {
         assert_eq!(rt; bus.pending(A, r), is_there, "{r:?}");
         bus.clear(A, r);
@@ -83,5 +85,21 @@ fn answers_to_orders(rt: HostRuntime) -> Result<(), Fail> {
         assert_eq!(rt; answer.status, status, "order {order} to {to}");
         assert_eq!(rt; answer.accepted, code == 0, "order {order} to {to}");
     }
+    Ok(())
+}
+
+/// Two CPUs at the start: a sense of the stopped one stores its state, a start of one that is not
+/// there answers code 3, and order 9 is invalid.
+#[test]
+fn a_stopped_cpu_an_absent_cpu_and_an_invalid_order(rt: HostRuntime) -> Result<(), Fail> {
+    let bus = Bus::new(rt.alloc(), 2)?;
+    let sensed = bus.answer(1, 1);
+    assert_eq!(rt; sensed.cc, 1);
+    assert_eq!(rt; sensed.status, 0x0000_0040);
+    let absent = bus.answer(2, 4);
+    assert_eq!(rt; absent.cc, 3);
+    let invalid = bus.answer(1, 9);
+    assert_eq!(rt; invalid.cc, 1);
+    assert_eq!(rt; invalid.status, 0x0000_0002);
     Ok(())
 }

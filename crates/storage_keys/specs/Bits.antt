@@ -1,6 +1,7 @@
 -- Bits of a key, numbered from the left of its byte.
--- Source: Principles of Operation, chapter on storage (storage key). That a block outside allows nothing is a choice of this project.
-use Rattle.std.specs.Prelude.{ℕ, Bool, true, false, if◌then◌else◌, List, Option, Some, None, slice_set}
+-- Source: Principles of Operation, chapter on storage (storage key). That a block outside allows
+-- nothing is a choice of this project.
+use Rattle.std.specs.Prelude.{ℕ, Bool, false, if◌then◌else◌, List, Option, Some, None, slice_set}
 use Rattle.esa_model.specs.Access.{allows}
 use Rattle.esa_model.specs.Machine.{with_reference, with_change, key_at}
 

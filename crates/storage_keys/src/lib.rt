@@ -1,7 +1,8 @@
 //! The storage keys: a key byte for each block of 4,096 bytes.
 #![tactic(auto)]
 
-ghost use Rattle.std.specs.Prelude.{◌≡◌, ◌≤◌, ℕ, List, length, replicate, slice_get, slice_set, true, false, IfOk};
+ghost use Rattle.std.specs.Prelude.{◌≡◌, ◌≤◌, ℕ, List, length, replicate, slice_get, slice_set};
+ghost use Rattle.std.specs.Prelude.{true, false, IfOk};
 ghost use Rattle.esa_model.specs.Access.{allows};
 ghost use Rattle.storage_keys.specs.Bits.{allowed, touched, marked};
 
@@ -9,8 +10,9 @@ use esa_model::memory::NoMemory;
 use std::alloc::Global;
 use std::marker::Model;
 
-/// The keys of at most 4,096 blocks: bits 0 to 3 of a key are the access key, bit 4 is fetch protection,
-/// bit 5 reference, bit 6 change. Source: Principles of Operation, chapter on storage (storage key).
+/// The keys of at most 4,096 blocks: bits 0 to 3 of a key are the access key, bit 4 is fetch
+/// protection, bit 5 reference, bit 6 change. Source: Principles of Operation, chapter on storage
+/// (storage key).
 #[derive(Drop)]
 pub struct Keys {
     keys: Vec<u8>,
@@ -80,7 +82,8 @@ impl Keys {
         }
     }
 
-    /// Sets the reference bit of a block and, where asked, its change bit. Outside it changes nothing.
+    /// Sets the reference bit of a block and, where asked, its change bit. Outside it changes
+    /// nothing.
     pub fn touch(&mut self, block: u16, change: bool)
         ensures { self.new ≡ touched change block self.old }
     {
@@ -89,8 +92,10 @@ impl Keys {
     }
 }
 
-/// Whether a key allows an access to a PSW key.
-fn allows_access(store: bool, psw_key: u8, key: u8) -> bool
+/// Whether a key allows an access to a PSW key: that is 0 or equal to the access key, or fetches
+/// where the block is not fetch-protected. Source: Principles of Operation, chapter on storage
+/// (protection).
+pub fn allows_access(store: bool, psw_key: u8, key: u8) -> bool
     ensures { result ≡ allows store psw_key key }
 {
     psw_key == 0 || key / 16 == psw_key || (!store && key / 8 % 2 == 0)

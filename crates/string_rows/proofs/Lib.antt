@@ -2,3 +2,4 @@ pub mod Codes
 pub mod Used
 pub mod Moved
 pub mod Units
+pub mod Covered

@@ -8,8 +8,10 @@ pub moved_none : (op : ℕ) (r : Registers) (s : List ℕ) (to from : ℕ) → m
 unfolding moved
 moved_none op r s to from = refl
 
-pub moved_more : (op : ℕ) (r : Registers) (s : List ℕ) (to from n : ℕ) → moved op r s to from (n + 1)
-    ≡ moved op r s to from n ++ (moved_byte op r to from n (written r to (moved op r s to from n) s) ∷ [])
+pub moved_more : (op : ℕ) (r : Registers) (s : List ℕ) (to from n : ℕ)
+    → moved op r s to from (n + 1)
+    ≡ moved op r s to from n
+    ++ (moved_byte op r to from n (written r to (moved op r s to from n) s) ∷ [])
 unfolding moved
 moved_more op r s to from n = let e : n + 1 ≡ suc n = omega arith in rw e refl
 
@@ -17,7 +19,9 @@ pub translated_none : (r : Registers) (s : List ℕ) (to table : ℕ) → transl
 unfolding translated
 translated_none r s to table = refl
 
-pub translated_more : (r : Registers) (s : List ℕ) (to table n : ℕ) → translated r s to table (n + 1)
-    ≡ translated r s to table n ++ (byte r (written r to (translated r s to table n) s) (table + byte r s (to + n)) ∷ [])
+pub translated_more : (r : Registers) (s : List ℕ) (to table n : ℕ)
+    → translated r s to table (n + 1)
+    ≡ translated r s to table n
+    ++ (byte r (written r to (translated r s to table n) s) (table + byte r s (to + n)) ∷ [])
 unfolding translated
 translated_more r s to table n = let e : n + 1 ≡ suc n = omega arith in rw e refl

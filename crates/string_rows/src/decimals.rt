@@ -1,114 +1,100 @@
-//! The decimal rows and the conversions: MVO, PACK, UNPK, ZAP, CP, AP, SP, MP, DP, ED, EDMK, SRP, CVB and CVD.
-ghost use Rattle.std.specs.Prelude.{◌≡◌};
-ghost use Rattle.esa_model.specs.Line.{lists as lists_opcode};
-ghost use Rattle.esa_model.specs.Rows.Decimals.{decimals_line, edits as edit_opcodes, fields as field_opcodes};
-ghost use Rattle.row_frame.specs.Made.{inputs, IsInRange, Fits, Covers, IsQuiet};
+//! The decimal rows and the conversions: MVO, PACK, UNPK, ZAP, CP, AP, SP, MP, DP, ED, EDMK, SRP,
+//! CVB and CVD.
+//! Source: Principles of Operation, chapter on decimal instructions.
+ghost use Rattle.std.specs.Prelude.{◌≡◌, true, IsTrue};
+ghost use Rattle.esa_model.specs.Rows.Decimals.{has_decimal};
+ghost use Rattle.string_rows.specs.Classes.{decimals_effect, decimals_operands, decimals_order};
+ghost use Rattle.row_frame.specs.Made.{IsInRange, Fits, Covers, IsQuiet};
 
 use crate::conversions::{binary_effect, binary_operands, decimal_effect, decimal_operands};
 use crate::edits::{edit_effect, edit_operands};
-use crate::fields::{field_effect, field_operands, lengths_fit, shift_effect, shift_operands};
+use crate::fields::{field_effect, field_operands, shift_effect, shift_operands};
 use abs_storage::View;
-use esa_model::machine::{CpuNo, Registers};
+use esa_model::kinds::DecimalKind;
+use esa_model::machine::Registers;
 use operand_access::Operands;
-use result_packet::Side;
-use row_frame::{Effect, Instruction, is_listed, leave, no_operands};
+use row_frame::{Effect, Instruction};
 
-/// MVO, PACK, UNPK, ZAP, CP, AP, SP, MP and DP.
-const FIELDS: [u16; 9] = [0xF1, 0xF2, 0xF3, 0xF8, 0xF9, 0xFA, 0xFB, 0xFC, 0xFD];
-
-/// ED and EDMK.
-const EDITS: [u16; 2] = [0xDE, 0xDF];
-
-fn is_field(opcode: u16) -> bool
-    ensures { result ≡ lists_opcode opcode field_opcodes }
-{
-    is_listed(&FIELDS, opcode)
-}
-
-fn is_edit(opcode: u16) -> bool
-    ensures { result ≡ lists_opcode opcode edit_opcodes }
-{
-    is_listed(&EDITS, opcode)
-}
-
-/// Whether the length codes are in order.
+/// Whether the length codes are in order: those of MP and DP are tested.
 #[tactic(auto, unfolding(esa_model::specs::Rows::Decimals::decimals_line))]
 pub fn in_order<V: View>(
+    kind: DecimalKind,
     opcode: u16,
     r: &Registers,
-    cpu: CpuNo,
     view: &V,
-    side: &Side,
     i: &Instruction,
 ) -> bool
     requires fields { IsInRange i.now.decoded }
-    ensures { result ≡ (decimals_line opcode).in_order (inputs r.now cpu.0 (V.bytes view.now) side.now i.now) }
+    requires known { IsTrue (has_decimal kind opcode) }
+    ensures { result ≡ decimals_order kind opcode r.now (V.bytes view.now) i.now }
 {
-    if is_field(opcode) {
-        lengths_fit(opcode, &i.decoded)
-    } else {
-        true
+    match kind {
+        DecimalKind::Products => i.decoded.r2 <= 7 && i.decoded.r2 < i.decoded.r1,
+        DecimalKind::Fields
+        | DecimalKind::Replaced
+        | DecimalKind::Compared
+        | DecimalKind::Shifted
+        | DecimalKind::Edited
+        | DecimalKind::EditedAndMarked
+        | DecimalKind::ToBinary
+        | DecimalKind::ToDecimal => true,
     }
 }
 
-/// The operands of a row. Of the source of an edit only the bytes that are used are an operand, so that the
-/// storage is read; what it shows stays the same.
+/// The operands of a row. Of the source of an edit only the bytes that are used are an operand, so
+/// that the storage is read; what it shows stays the same.
 #[tactic(auto, unfolding(esa_model::specs::Rows::Decimals::decimals_line))]
 pub fn operands<V: View>(
+    kind: DecimalKind,
     opcode: u16,
     r: &Registers,
-    cpu: CpuNo,
     view: &mut V,
-    side: &Side,
     i: &Instruction,
 ) -> Operands
     requires fields { IsInRange i.now.decoded }
-    ensures operands { result ≡ (decimals_line opcode).operands (inputs r.now cpu.0 (V.bytes view.old) side.now i.now) }
+    requires known { IsTrue (has_decimal kind opcode) }
+    requires order { decimals_order kind opcode r.now (V.bytes view.old) i.now ≡ true }
+    ensures operands { result ≡ decimals_operands kind opcode r.now (V.bytes view.old) i.now }
     ensures fits { Fits result }
     ensures same { V.bytes view.new ≡ V.bytes view.old }
 {
-    if is_field(opcode) {
-        field_operands(opcode, r, cpu, view, side, i)
-    } else if is_edit(opcode) {
-        edit_operands(opcode, r, cpu, view, side, i)
-    } else if opcode == 0xF0 {
-        shift_operands(r, cpu, view, side, i)
-    } else if opcode == 0x4F {
-        binary_operands(r, cpu, view, side, i)
-    } else if opcode == 0x4E {
-        decimal_operands(r, cpu, view, side, i)
-    } else {
-        no_operands()
+    match kind {
+        DecimalKind::Fields | DecimalKind::Products => field_operands(true, true, r, i),
+        DecimalKind::Replaced => field_operands(false, true, r, i),
+        DecimalKind::Compared => field_operands(true, false, r, i),
+        DecimalKind::Shifted => shift_operands(r, i),
+        DecimalKind::Edited => edit_operands(false, r, view, i),
+        DecimalKind::EditedAndMarked => edit_operands(true, r, view, i),
+        DecimalKind::ToBinary => binary_operands(r, i),
+        DecimalKind::ToDecimal => decimal_operands(r, i),
     }
 }
 
-/// What a row does. An opcode that is none of these leaves all.
-#[tactic(auto, unfolding(esa_model::specs::Rows::Decimals::decimals_line))]
+/// What a row does.
+#[tactic(auto, unfolding(esa_model::specs::Rows::Decimals::decimals_line, esa_model::specs::Rows::Decimals::has_decimal))]
 pub fn effect_of<V: View>(
+    kind: DecimalKind,
     opcode: u16,
     r: &Registers,
-    cpu: CpuNo,
     view: &mut V,
-    side: &Side,
     i: &Instruction,
 ) -> Effect
     requires fields { IsInRange i.now.decoded }
-    ensures effect { result ≡ (decimals_line opcode).effect (inputs r.now cpu.0 (V.bytes view.old) side.now i.now) }
-    ensures covers { Covers ((decimals_line opcode).operands (inputs r.now cpu.0 (V.bytes view.old) side.now i.now)) result }
+    requires known { IsTrue (has_decimal kind opcode) }
+    requires order { decimals_order kind opcode r.now (V.bytes view.old) i.now ≡ true }
+    ensures effect { result ≡ decimals_effect kind opcode r.now (V.bytes view.old) i.now }
+    ensures covers { Covers (decimals_operands kind opcode r.now (V.bytes view.old) i.now) result }
     ensures quiet { IsQuiet result }
     ensures same { V.bytes view.new ≡ V.bytes view.old }
 {
-    if is_field(opcode) {
-        field_effect(opcode, r, cpu, view, side, i)
-    } else if is_edit(opcode) {
-        edit_effect(opcode, r, cpu, view, side, i)
-    } else if opcode == 0xF0 {
-        shift_effect(r, cpu, view, side, i)
-    } else if opcode == 0x4F {
-        binary_effect(r, cpu, view, side, i)
-    } else if opcode == 0x4E {
-        decimal_effect(r, cpu, view, side, i)
-    } else {
-        leave(*r)
+    match kind {
+        DecimalKind::Fields | DecimalKind::Products => field_effect(opcode, true, r, view, i),
+        DecimalKind::Replaced => field_effect(opcode, true, r, view, i),
+        DecimalKind::Compared => field_effect(opcode, false, r, view, i),
+        DecimalKind::Shifted => shift_effect(r, view, i),
+        DecimalKind::Edited => edit_effect(false, r, view, i),
+        DecimalKind::EditedAndMarked => edit_effect(true, r, view, i),
+        DecimalKind::ToBinary => binary_effect(r, view, i),
+        DecimalKind::ToDecimal => decimal_effect(r, i),
     }
 }

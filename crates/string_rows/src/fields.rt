@@ -1,84 +1,41 @@
 // The decimal rows that change or compare a field of 1 to 16 bytes.
-ghost use Rattle.std.specs.Prelude.{◌≡◌, ◌≤◌, ◌<◌, ◌==◌, ◌&&◌, ◌||◌, nat_le, nat_lt, [], IsTrue, if◌then◌else◌, length, not};
-ghost use Rattle.esa_model.specs.DecimalRows.{Leaves, shift_row as shifted_row, two_row};
-ghost use Rattle.esa_model.specs.Line.{advanced, coded, ended, interrupts_after, lists as lists_opcode};
-ghost use Rattle.esa_model.specs.Rows.Decimals.{field_line, fields as field_opcodes, shift_line};
+// Source: Principles of Operation, chapter on decimal instructions.
+ghost use Rattle.std.specs.Prelude.{◌≡◌, ◌+◌, ◌≤◌, ◌<◌, [], true, IsTrue, length};
+ghost use Rattle.esa_model.specs.DecimalRows.{Leaves, is_two, shift_row as shifted_row, two_row};
+ghost use Rattle.esa_model.specs.Rows.Decimals.{shift_line};
+ghost use Rattle.string_rows.specs.Classes.{field_ending, two_field_effect, two_field_operands};
 ghost use Rattle.row_frame.specs.Made.{inputs, IsInRange, Fits, Covers, IsQuiet};
 
 use abs_storage::View;
-use arrayvec::ArrayVec;
-use decimal_instr::{srp, two};
-use esa_model::instructions::Decoded;
-use esa_model::machine::{CpuNo, Psw, Registers, Value};
+use decimal_instr::{srp, two as two_value};
+use esa_model::machine::{Registers, Value};
 use operand_access::{Operands, gather, whole};
-use result_packet::Side;
-use row_frame::{Effect, Instruction, after_coded, bytes_of, first_of, listed, second_of};
+use row_frame::{
+    Effect, Instruction, after_coded, bytes_of, end, first_of, interrupts, listed, one, second_of,
+    two,
+};
 
-/// Whether a code interrupts after completion.
-fn interrupts(p: Psw, fault: u8) -> bool
-    ensures { result ≡ interrupts_after p fault }
-{
-    (fault == 8 && p.w0 / 0x800 % 2 == 1) || (fault == 10 && p.w0 / 0x400 % 2 == 1)
-}
-
-/// The effect that ends with a program code or 0, and stores bytes.
-fn end(registers: Registers, interrupts: bool, fault: u8, stored: ArrayVec<u8, 256>) -> Effect
-    ensures effect { result ≡ record (ended registers interrupts fault) { stored = stored.items } }
-    ensures short { length result.stored ≡ length stored.items }
+/// What a decimal row does that leaves this field and value, and stores the field or not.
+fn end_with(r: &Registers, i: &Instruction, store: bool, field: &[u8], v: &Value) -> Effect
+    requires code { v.now.cc < 5 }
+    requires few { length field.now ≤ 256 }
+    ensures effect { result ≡ field_ending r.now i.now store field.now v.now }
+    ensures short { length result.stored ≤ length field.now }
     ensures console { result.console_out ≡ [] }
-    ensures kind { result.kind < 3 }
     ensures quiet { IsQuiet result }
 {
-    let is_late = fault == 8 || fault == 10;
-    let interrupts = is_late && interrupts;
-    Effect {
-        registers,
-        stored,
-        console_out: ArrayVec::new(),
-        console_in: None,
-        block: 0xFFFF,
-        key: 0,
-        order: 0,
-        order_to: 0xFF,
-        kind: if interrupts { 1 } else { 0 },
-        code: if interrupts { fault } else { 0 },
-        fault: if is_late { 0 } else { fault },
+    let registers = after_coded(r, i.len, v.cc);
+    let mut effect = end(registers, interrupts(r.psw, v.fault), v.fault);
+    if store {
+        effect.stored = listed(field);
     }
-}
-
-/// The effect of a decimal row with this value, which stores bytes.
-fn decimal_end(r: &Registers, len: u8, v: &Value, stored: ArrayVec<u8, 256>) -> Effect
-    requires { v.now.cc < 5 }
-    ensures effect { result ≡ record (ended (coded (advanced r.now len) v.now.cc) (interrupts_after r.now.psw v.now.fault) v.now.fault) { stored = stored.items } }
-    ensures short { length result.stored ≡ length stored.items }
-    ensures console { result.console_out ≡ [] }
-    ensures kind { result.kind < 3 }
-    ensures quiet { IsQuiet result }
-{
-    end(
-        after_coded(r, len, v.cc),
-        interrupts(r.psw, v.fault),
-        v.fault,
-        stored,
-    )
-}
-
-/// The bytes, or none.
-fn listed_where(is_stored: bool, bytes: &[u8]) -> ArrayVec<u8, 256>
-    requires { length bytes.now ≤ 256 }
-    ensures items { result.items ≡ (if is_stored then bytes.now else []) }
-    ensures short { length result.items ≤ length bytes.now }
-{
-    if is_stored {
-        listed(bytes)
-    } else {
-        ArrayVec::new()
-    }
+    effect
 }
 
 /// What a row leaves of its first field.
+#[tactic(auto, using(crate::proofs::Codes::two_byte))]
 fn two_fields(op: u16, first: &mut [u8], second: &[u8]) -> Value
-    requires row { IsTrue (lists_opcode op field_opcodes) }
+    requires row { IsTrue (is_two op) }
     requires some { 1 ≤ length first.old }
     requires few { length first.old ≤ 16 }
     requires second_some { 1 ≤ length second.now }
@@ -86,7 +43,7 @@ fn two_fields(op: u16, first: &mut [u8], second: &[u8]) -> Value
     ensures leaves { Leaves (two_row op first.old second.now) first.new result }
     ensures code { result.cc < 5 }
 {
-    two(op as u8, first, second)
+    two_value(op as u8, first, second)
 }
 
 /// What SRP leaves of its field.
@@ -100,94 +57,65 @@ fn shifted(first: &mut [u8], by: u8, round: u8) -> Value
     srp(first, by, round)
 }
 
-/// The test of the lengths of MP and DP.
-pub(crate) fn lengths_fit(op: u16, d: &Decoded) -> bool
-    requires { IsInRange d.now }
-    ensures { result ≡ (not (op == 0xFC || op == 0xFD) || (nat_le d.now.r2 7 && nat_lt d.now.r2 d.now.r1)) }
-{
-    !(op == 0xFC || op == 0xFD) || (d.r2 <= 7 && d.r2 < d.r1)
-}
-
-/// The operands of a row on two fields.
-pub(crate) fn field_operands<V: View>(
-    op: u16,
-    r: &Registers,
-    cpu: CpuNo,
-    view: &V,
-    side: &Side,
-    i: &Instruction,
-) -> Operands
+/// The operands of a row on two fields, the first of which is fetched, or stored, or both.
+pub(crate) fn field_operands(fetch: bool, store: bool, r: &Registers, i: &Instruction) -> Operands
     requires fields { IsInRange i.now.decoded }
-    ensures operands { result ≡ (field_line op).operands (inputs r.now cpu.0 (V.bytes view.now) side.now i.now) }
+    ensures operands { result ≡ two_field_operands fetch store r.now i.now }
     ensures fits { Fits result }
 {
     let d = &i.decoded;
-    let fetches = !(op == 0xF2 || (op == 0xF3 || op == 0xF8));
-    row_frame::two(
-        whole(first_of(r, d), d.r1 as u32 + 1, fetches, op != 0xF9),
-        whole(second_of(r, d), d.r2 as u32 + 1, true, false),
+    two(
+        whole(first_of(r, d), u32::from(d.r1) + 1, fetch, store),
+        whole(second_of(r, d), u32::from(d.r2) + 1, true, false),
     )
 }
 
-/// What a row on two fields does.
+/// What a row on two fields does, which stores its first field or not.
 pub(crate) fn field_effect<V: View>(
     op: u16,
+    store: bool,
     r: &Registers,
-    cpu: CpuNo,
     view: &mut V,
-    side: &Side,
     i: &Instruction,
 ) -> Effect
     requires fields { IsInRange i.now.decoded }
-    requires row { IsTrue (lists_opcode op field_opcodes) }
-    ensures effect { result ≡ (field_line op).effect (inputs r.now cpu.0 (V.bytes view.old) side.now i.now) }
-    ensures covers { Covers ((field_line op).operands (inputs r.now cpu.0 (V.bytes view.old) side.now i.now)) result }
+    requires known { IsTrue (is_two op) }
+    ensures effect { result ≡ two_field_effect op store r.now (V.bytes view.old) i.now }
+    ensures covers { Covers (two_field_operands true store r.now i.now) result }
     ensures quiet { IsQuiet result }
     ensures same { V.bytes view.new ≡ V.bytes view.old }
 {
     let d = &i.decoded;
-    let second = bytes_of(r, view, second_of(r, d), d.r2 as u32 + 1);
+    let second = bytes_of(r, view, second_of(r, d), u32::from(d.r2) + 1);
     let mut area = [0; 16];
-    let field = &mut area[..d.r1 as usize + 1];
+    let field = &mut area[..usize::from(d.r1) + 1];
     gather(r, view, first_of(r, d), field);
     let v = two_fields(op, field, second.as_slice());
-    decimal_end(r, i.len, &v, listed_where(op != 0xF9, field))
+    end_with(r, i, store, field, &v)
 }
 
 /// The operand of SRP.
-pub(crate) fn shift_operands<V: View>(
-    r: &Registers,
-    cpu: CpuNo,
-    view: &V,
-    side: &Side,
-    i: &Instruction,
-) -> Operands
+pub(crate) fn shift_operands(r: &Registers, i: &Instruction) -> Operands
     requires fields { IsInRange i.now.decoded }
-    ensures operands { result ≡ shift_line.operands (inputs r.now cpu.0 (V.bytes view.now) side.now i.now) }
+    ensures operands { result ≡ shift_line.operands (inputs r.now [] i.now) }
     ensures fits { Fits result }
 {
     let d = &i.decoded;
-    row_frame::one(whole(first_of(r, d), d.r1 as u32 + 1, true, true))
+    one(whole(first_of(r, d), u32::from(d.r1) + 1, true, true))
 }
 
-/// What SRP does.
-pub(crate) fn shift_effect<V: View>(
-    r: &Registers,
-    cpu: CpuNo,
-    view: &mut V,
-    side: &Side,
-    i: &Instruction,
-) -> Effect
+/// What SRP does: it shifts by the low six bits of the second address.
+pub(crate) fn shift_effect<V: View>(r: &Registers, view: &mut V, i: &Instruction) -> Effect
     requires fields { IsInRange i.now.decoded }
-    ensures effect { result ≡ shift_line.effect (inputs r.now cpu.0 (V.bytes view.old) side.now i.now) }
-    ensures covers { Covers (shift_line.operands (inputs r.now cpu.0 (V.bytes view.old) side.now i.now)) result }
+    ensures effect { result ≡ shift_line.effect (inputs r.now (V.bytes view.old) i.now) }
+    ensures covers { Covers (shift_line.operands (inputs r.now [] i.now)) result }
     ensures quiet { IsQuiet result }
     ensures same { V.bytes view.new ≡ V.bytes view.old }
 {
     let d = &i.decoded;
     let mut area = [0; 16];
-    let field = &mut area[..d.r1 as usize + 1];
+    let field = &mut area[..usize::from(d.r1) + 1];
     gather(r, view, first_of(r, d), field);
     let v = shifted(field, (second_of(r, d) % 64) as u8, d.r2);
-    decimal_end(r, i.len, &v, listed_where(true, field))
+    end_with(r, i, true, field, &v)
 }

@@ -1,4 +1,5 @@
-//! The rows on strings of bytes and on decimal fields: their tests, their operands and what they do.
+//! The rows on strings of bytes and on decimal fields: their tests, their operands and what they
+//! do.
 #![tactic(auto)]
 
 pub mod bytes;

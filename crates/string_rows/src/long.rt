@@ -1,36 +1,38 @@
 // The units of MVCL and CLCL.
-ghost use Rattle.std.specs.Prelude.{◌≡◌, ◌≤◌, ◌<◌, ◌+◌, ◌%◌, ◌^◌, ◌++◌, IfSome, true, if◌then◌else◌, length, min, replicate};
+// Source: Principles of Operation, chapter on general instructions.
+ghost use Rattle.std.specs.Prelude.{◌≡◌, ◌≤◌, ◌<◌, ◌+◌, ◌^◌, ◌++◌, IfSome, [], length, min, replicate};
+ghost use Rattle.esa_model.specs.LongMoves.{compare_row, move_row};
+ghost use Rattle.esa_model.specs.Rows.Bytes.{compare_long_line as compare_line, compare_long_registers, ended_by, first_len, long_of, move_long_line as move_line, move_long_registers, second_len};
+ghost use Rattle.esa_model.specs.Psw.{wrapped};
 ghost use Rattle.esa_model.specs.Line.{general};
-ghost use Rattle.esa_model.specs.LongMoves.{after_unit, compare_row, long_operands, move_row, wrap as wrap_of};
-ghost use Rattle.esa_model.specs.Psw.{is_wide, wrapped};
-ghost use Rattle.esa_model.specs.Rows.Bytes.{compare_long_line, ended_by, first_len, move_long_line, second_len};
-ghost use Rattle.row_frame.specs.Made.{inputs, Fits, Covers, IsQuiet};
+ghost use Rattle.string_rows.specs.Classes.{passed};
+ghost use Rattle.row_frame.specs.Made.{inputs, IsInRange, IsPlain, Fits, Covers, IsQuiet};
 
 use crate::registers::stored;
 use abs_storage::View;
 use arrayvec::ArrayVec;
 use esa_model::instructions::Decoded;
-use esa_model::machine::{CpuNo, Registers};
+use esa_model::machine::Registers;
 use general_move::{CompareUnit, LongOperands, MoveUnit, compare_unit, move_unit};
-use operand_access::{Operands, whole, wrap};
-use result_packet::Side;
-use row_frame::{Effect, Instruction, after_coded, bytes_of, general_of, leave};
+use operand_access::{Operands, whole};
+use row_frame::{Effect, Instruction, after_coded, bytes_of, general_of, leave, two};
 
 /// What the registers of a long operation say.
 #[tactic(auto, unfolding(esa_model::specs::LongMoves::long_operands))]
-fn long_of(r: &Registers, d: &Decoded) -> LongOperands
-    requires first { d.now.r1 + 1 < 16 }
-    requires second { d.now.r2 + 1 < 16 }
-    ensures { result ≡ long_operands r.now.general d.now.r1 d.now.r2 (is_wide r.now.psw) }
+fn operands_of(r: &Registers, i: &Instruction) -> LongOperands
+    requires first { i.now.decoded.r1 + 1 < 16 }
+    requires second { i.now.decoded.r2 + 1 < 16 }
+    ensures { result ≡ long_of (inputs r.now [] i.now) }
 {
-    let last = r.general[d.r2 as usize + 1];
+    let d = &i.decoded;
+    let last = r.general[usize::from(d.r2) + 1];
     LongOperands {
-        to: r.general[d.r1 as usize],
-        to_len: r.general[d.r1 as usize + 1] % 0x100_0000,
-        from: r.general[d.r2 as usize],
+        to: r.general[usize::from(d.r1)],
+        to_len: r.general[usize::from(d.r1) + 1] % 0x100_0000,
+        from: r.general[usize::from(d.r2)],
         from_len: last % 0x100_0000,
         pad: (last / 0x100_0000) as u8,
-        wide: r.psw.w1 >= 0x8000_0000,
+        wide: r.psw.is_wide(),
     }
 }
 
@@ -40,39 +42,30 @@ fn address_in(r: &Registers, n: u8) -> u32
     ensures address { result ≡ wrapped r.now.psw (general r.now n) }
     ensures small { result < 2 ^ 31 }
 {
-    wrap(r.psw, general_of(r, n) as u64)
-}
-
-/// An address that wraps by the mode.
-fn wrapped_by(wide: bool, a: u64) -> u32
-    ensures { result ≡ a % wrap_of wide }
-{
-    if wide {
-        (a % 2147483648) as u32
-    } else {
-        (a % 16777216) as u32
-    }
+    r.psw.wrapped(u64::from(general_of(r, n)))
 }
 
 /// The registers after a unit that takes so many bytes of both operands.
-#[tactic(auto, unfolding(esa_model::specs::LongMoves::after_unit))]
+#[tactic(auto, using(crate::proofs::Units::wraps_by_mode), unfolding(esa_model::specs::LongMoves::after_unit))]
 fn registers_after(r: &Registers, d: &Decoded, first: u32, second: u32) -> Registers
     requires first_pair { d.now.r1 + 1 < 16 }
     requires second_pair { d.now.r2 + 1 < 16 }
-    ensures { result ≡ record r.now { general = after_unit r.now.general d.now.r1 d.now.r2 (is_wide r.now.psw) first second } }
+    ensures { result ≡ passed r.now d.now first second }
 {
-    let wide = r.psw.w1 >= 0x8000_0000;
-    let to = d.r1 as usize;
-    let from = d.r2 as usize;
+    let to = usize::from(d.r1);
+    let from = usize::from(d.r2);
     let mut out = *r;
-    out.general[to] = wrapped_by(wide, r.general[to] as u64 + first as u64);
+    out.general[to] = r.psw.wrapped(u64::from(r.general[to]) + u64::from(first));
     out.general[to + 1] = r.general[to + 1].saturating_sub(first);
-    out.general[from] = wrapped_by(wide, r.general[from] as u64 + second as u64);
+    out.general[from] = r
+        .psw
+        .wrapped(u64::from(r.general[from]) + u64::from(second));
     out.general[from + 1] = r.general[from + 1].saturating_sub(second);
     out
 }
 
-/// The registers, after the last unit with its condition code and the address of the next instruction.
+/// The registers, after the last unit with its condition code and the address of the next
+/// instruction.
 fn end_by(r: &Registers, len: u8, code: Option<u8>) -> Registers
     requires { IfSome code (λ x. x < 5) }
     ensures { result ≡ ended_by r.now len code }
@@ -116,68 +109,53 @@ fn padded(bytes: ArrayVec<u8, 256>, count: u32, pad: u8) -> ArrayVec<u8, 256>
 }
 
 /// The operands of MVCL.
-pub(crate) fn move_operands<V: View>(
-    r: &Registers,
-    cpu: CpuNo,
-    view: &V,
-    side: &Side,
-    i: &Instruction,
-) -> Operands
+pub(crate) fn move_operands(r: &Registers, i: &Instruction) -> Operands
     requires first { i.now.decoded.r1 + 1 < 16 }
     requires second { i.now.decoded.r2 + 1 < 16 }
-    ensures operands { result ≡ move_long_line.operands (inputs r.now cpu.0 (V.bytes view.now) side.now i.now) }
+    ensures operands { result ≡ move_line.operands (inputs r.now [] i.now) }
     ensures fits { Fits result }
 {
     let d = &i.decoded;
-    let u = unit_moved(&long_of(r, d));
-    row_frame::two(
-        whole(
-            address_in(r, d.r1),
-            u.copied as u32 + u.padded as u32,
-            false,
-            true,
-        ),
-        whole(address_in(r, d.r2), u.copied as u32, true, false),
+    let u = unit_moved(&operands_of(r, i));
+    let copied = u32::from(u.copied);
+    let len = copied + u32::from(u.padded);
+    two(
+        whole(address_in(r, d.r1), len, false, true),
+        whole(address_in(r, d.r2), copied, true, false),
     )
 }
 
 /// The registers after a unit of MVCL.
-fn registers_moved(r: &Registers, d: &Decoded, len: u8, u: &MoveUnit) -> Registers
-    requires first { d.now.r1 + 1 < 16 }
-    requires second { d.now.r2 + 1 < 16 }
+fn registers_moved(r: &Registers, i: &Instruction, u: &MoveUnit) -> Registers
+    requires first { i.now.decoded.r1 + 1 < 16 }
+    requires second { i.now.decoded.r2 + 1 < 16 }
     requires few { u.now.copied + u.now.padded ≤ 256 }
     requires code { IfSome u.now.cc (λ x. x < 5) }
-    ensures { result ≡ (if u.now.destructive then ended_by r.now len u.now.cc else
-        ended_by (record r.now { general = after_unit r.now.general d.now.r1 d.now.r2 (is_wide r.now.psw) (u.now.copied + u.now.padded) u.now.copied }) len u.now.cc) }
+    ensures { result ≡ move_long_registers (inputs r.now [] i.now) u.now }
 {
     if u.destructive {
-        return end_by(r, len, u.cc);
+        return end_by(r, i.len, u.cc);
     }
-    let moved = registers_after(r, d, u.copied as u32 + u.padded as u32, u.copied as u32);
-    end_by(&moved, len, u.cc)
+    let copied = u32::from(u.copied);
+    let moved = registers_after(r, &i.decoded, copied + u32::from(u.padded), copied);
+    end_by(&moved, i.len, u.cc)
 }
 
 /// What MVCL does.
-pub(crate) fn move_effect<V: View>(
-    r: &Registers,
-    cpu: CpuNo,
-    view: &mut V,
-    side: &Side,
-    i: &Instruction,
-) -> Effect
+pub(crate) fn move_effect<V: View>(r: &Registers, view: &mut V, i: &Instruction) -> Effect
     requires first { i.now.decoded.r1 + 1 < 16 }
     requires second { i.now.decoded.r2 + 1 < 16 }
-    ensures effect { result ≡ move_long_line.effect (inputs r.now cpu.0 (V.bytes view.old) side.now i.now) }
-    ensures covers { Covers (move_long_line.operands (inputs r.now cpu.0 (V.bytes view.old) side.now i.now)) result }
+    ensures effect { result ≡ move_line.effect (inputs r.now (V.bytes view.old) i.now) }
+    ensures covers { Covers (move_line.operands (inputs r.now [] i.now)) result }
     ensures quiet { IsQuiet result }
     ensures same { V.bytes view.new ≡ V.bytes view.old }
 {
-    let d = &i.decoded;
-    let m = long_of(r, d);
+    let m = operands_of(r, i);
     let u = unit_moved(&m);
-    let copied = bytes_of(r, view, address_in(r, d.r2), u.copied as u32);
-    let out = padded(copied, u.padded as u32, m.pad);
-    stored(registers_moved(r, d, i.len, &u), out)
+    let from = address_in(r, i.decoded.r2);
+    let copied = bytes_of(r, view, from, u32::from(u.copied));
+    let out = padded(copied, u32::from(u.padded), m.pad);
+    stored(registers_moved(r, i, &u), out)
 }
 
 /// How many bytes of the first operand a unit of CLCL takes.
@@ -199,21 +177,15 @@ fn second_len_of(c: &LongOperands) -> u32
 }
 
 /// The operands of CLCL.
-pub(crate) fn compare_operands<V: View>(
-    r: &Registers,
-    cpu: CpuNo,
-    view: &V,
-    side: &Side,
-    i: &Instruction,
-) -> Operands
+pub(crate) fn compare_operands(r: &Registers, i: &Instruction) -> Operands
     requires first { i.now.decoded.r1 + 1 < 16 }
     requires second { i.now.decoded.r2 + 1 < 16 }
-    ensures operands { result ≡ compare_long_line.operands (inputs r.now cpu.0 (V.bytes view.now) side.now i.now) }
+    ensures operands { result ≡ compare_line.operands (inputs r.now [] i.now) }
     ensures fits { Fits result }
 {
     let d = &i.decoded;
-    let c = long_of(r, d);
-    row_frame::two(
+    let c = operands_of(r, i);
+    two(
         whole(address_in(r, d.r1), first_len_of(&c), true, false),
         whole(address_in(r, d.r2), second_len_of(&c), true, false),
     )
@@ -222,40 +194,34 @@ pub(crate) fn compare_operands<V: View>(
 /// The registers after a unit of CLCL.
 fn registers_compared(
     r: &Registers,
-    d: &Decoded,
-    len: u8,
+    i: &Instruction,
     c: &LongOperands,
     u: &CompareUnit,
 ) -> Registers
-    requires first { d.now.r1 + 1 < 16 }
-    requires second { d.now.r2 + 1 < 16 }
+    requires first { i.now.decoded.r1 + 1 < 16 }
+    requires second { i.now.decoded.r2 + 1 < 16 }
     requires code { IfSome u.now.cc (λ x. x < 5) }
-    ensures { result ≡ ended_by (record r.now { general = after_unit r.now.general d.now.r1 d.now.r2 (is_wide r.now.psw) (min u.now.equal c.now.to_len) (min u.now.equal c.now.from_len) }) len u.now.cc }
+    requires operands { c.now ≡ long_of (inputs r.now [] i.now) }
+    ensures { result ≡ compare_long_registers (inputs r.now [] i.now) u.now }
 {
-    let equal = u.equal as u32;
-    let passed = registers_after(r, d, equal.min(c.to_len), equal.min(c.from_len));
-    end_by(&passed, len, u.cc)
+    let equal = u32::from(u.equal);
+    let passed = registers_after(r, &i.decoded, equal.min(c.to_len), equal.min(c.from_len));
+    end_by(&passed, i.len, u.cc)
 }
 
 /// What CLCL does.
-pub(crate) fn compare_effect<V: View>(
-    r: &Registers,
-    cpu: CpuNo,
-    view: &mut V,
-    side: &Side,
-    i: &Instruction,
-) -> Effect
+pub(crate) fn compare_effect<V: View>(r: &Registers, view: &mut V, i: &Instruction) -> Effect
     requires first { i.now.decoded.r1 + 1 < 16 }
     requires second { i.now.decoded.r2 + 1 < 16 }
-    ensures effect { result ≡ compare_long_line.effect (inputs r.now cpu.0 (V.bytes view.old) side.now i.now) }
-    ensures covers { Covers (compare_long_line.operands (inputs r.now cpu.0 (V.bytes view.old) side.now i.now)) result }
+    ensures effect { result ≡ compare_line.effect (inputs r.now (V.bytes view.old) i.now) }
+    ensures plain { IsPlain result }
     ensures quiet { IsQuiet result }
     ensures same { V.bytes view.new ≡ V.bytes view.old }
 {
     let d = &i.decoded;
-    let c = long_of(r, d);
+    let c = operands_of(r, i);
     let first = bytes_of(r, view, address_in(r, d.r1), first_len_of(&c));
     let second = bytes_of(r, view, address_in(r, d.r2), second_len_of(&c));
     let u = unit_compared(first.as_slice(), second.as_slice(), &c);
-    leave(registers_compared(r, d, i.len, &c, &u))
+    leave(registers_compared(r, i, &c, &u))
 }

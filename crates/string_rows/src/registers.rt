@@ -4,29 +4,32 @@ ghost use Rattle.esa_model.specs.Line.{coded, marked, stores};
 ghost use Rattle.row_frame.specs.Made.{IsQuiet};
 
 use arrayvec::ArrayVec;
+use esa_model::codes::STAYS;
 use esa_model::machine::Registers;
-use operand_access::wrap;
-use row_frame::{Effect, psw_coded, store};
+use row_frame::{Effect, store};
 
-/// The registers with a condition code, 4 where that stays.
-pub(crate) fn with_condition(r: &Registers, code: u8) -> Registers
+/// The registers with a condition code, or the one that they have where it stays.
+pub(crate) fn with_condition(r: Registers, code: u8) -> Registers
     requires { code < 5 }
-    ensures { result ≡ coded r.now code }
+    ensures { result ≡ coded r code }
 {
-    let mut out = *r;
-    if code != 4 {
-        out.psw = psw_coded(r.psw, code);
+    if code == STAYS {
+        return r;
     }
-    out
+    Registers {
+        psw: r.psw.with_condition_code(code),
+        ..r
+    }
 }
 
-/// Register 1 with an address in it: of its bits 0 to 7 all stay in 24-bit mode, none in 31-bit mode.
+/// Register 1 with an address in it: of its bits 0 to 7 all stay in 24-bit mode, none in 31-bit
+/// mode.
 #[tactic(auto, unfolding(esa_model::specs::Line::marked))]
 pub(crate) fn address_marked(r: &Registers, at: u64) -> u32
     ensures { result ≡ marked r.now at }
 {
-    let address = wrap(r.psw, at);
-    if r.psw.w1 >= 0x8000_0000 {
+    let address = r.psw.wrapped(at);
+    if r.psw.is_wide() {
         address
     } else {
         r.general[1] / 0x100_0000 * 0x100_0000 + address
@@ -38,7 +41,6 @@ pub(crate) fn stored(registers: Registers, bytes: ArrayVec<u8, 256>) -> Effect
     ensures effect { result ≡ stores registers bytes.items }
     ensures short { length result.stored ≡ length bytes.items }
     ensures console { result.console_out ≡ [] }
-    ensures kind { result.kind < 3 }
     ensures quiet { IsQuiet result }
 {
     store(registers, bytes)

@@ -1,18 +1,17 @@
 // TRANSLATE AND TEST, whose operands are used byte and byte in turn.
-ghost use Rattle.std.specs.Prelude.{◌≡◌, ◌≤◌, ◌<◌, ◌+◌, IfSome, true, length, take};
-ghost use Rattle.esa_model.specs.Access.{bytes as bytes_at};
+// Source: Principles of Operation, chapter on general instructions.
+ghost use Rattle.std.specs.Prelude.{◌≡◌, ◌≤◌, ◌<◌, IfSome, true, length, take};
 ghost use Rattle.esa_model.specs.Moves.{hit_code, hit_of};
-ghost use Rattle.esa_model.specs.Rows.Bytes.{hit_registers, translate_and_test_line, used_by};
-ghost use Rattle.row_frame.specs.Made.{inputs, IsInRange, Fits, Covers, IsQuiet};
+ghost use Rattle.esa_model.specs.Rows.Bytes.{hit, hit_registers, size, translate_and_test_line as test_line, used_by};
+ghost use Rattle.row_frame.specs.Made.{inputs, IsInRange, IsPlain, Fits, IsQuiet};
 
 use crate::moves::used_at;
 use crate::registers::{address_marked, with_condition};
 use abs_storage::View;
 use arrayvec::ArrayVec;
-use esa_model::machine::{CpuNo, Registers};
+use esa_model::machine::Registers;
 use general_move::{Hit, translate_test};
 use operand_access::{Operand, Operands, gather, whole};
-use result_packet::Side;
 use row_frame::{Effect, Instruction, after, bytes_of, first_of, leave, listed, second_of};
 
 /// The first byte whose function byte is not zero.
@@ -33,7 +32,7 @@ fn used_until(len: u32, hit: Option<Hit>) -> u32
     ensures few { result ≤ len }
 {
     match hit {
-        Some(h) => h.at as u32 + 1,
+        Some(h) => u32::from(h.at) + 1,
         None => len,
     }
 }
@@ -45,46 +44,23 @@ fn code_of(len: u32, hit: Option<Hit>) -> u8
     ensures small { result < 5 }
 {
     match hit {
-        Some(h) => { if h.at as u32 + 1 == len { 2 } else { 1 } }
+        Some(h) => { if u32::from(h.at) + 1 == len { 2 } else { 1 } }
         None => 0,
     }
 }
 
-/// The hit of the operands at these addresses.
-fn hit_at<V: View>(r: &Registers, view: &mut V, at: u32, table: u32, len: u32) -> Option<Hit>
-    requires some { 1 ≤ len }
-    requires few { len ≤ 256 }
-    ensures hit { result ≡ hit_of (bytes_at r.now (V.bytes view.old) at len) (bytes_at r.now (V.bytes view.old) table 256) }
-    ensures within { IfSome result (λ h. h.at < len) }
-    ensures same { V.bytes view.new ≡ V.bytes view.old }
-{
-    let first = bytes_of(r, view, at, len);
-    let mut functions = [0; 256];
-    gather(r, view, table, &mut functions);
-    tested(first.as_slice(), &functions)
-}
-
-/// The operands of TRT.
-pub(crate) fn test_operands<V: View>(
-    r: &Registers,
-    cpu: CpuNo,
-    view: &mut V,
-    side: &Side,
-    i: &Instruction,
-) -> Operands
-    requires fields { IsInRange i.now.decoded }
-    ensures operands { result ≡ translate_and_test_line.operands (inputs r.now cpu.0 (V.bytes view.old) side.now i.now) }
-    ensures fits { Fits result }
+/// The hit of the operands.
+fn find_hit<V: View>(r: &Registers, view: &mut V, i: &Instruction) -> Option<Hit>
+    requires { IsInRange i.now.decoded }
+    ensures hit { result ≡ hit (inputs r.now (V.bytes view.old) i.now) }
+    ensures within { IfSome result (λ h. h.at < size (inputs r.now (V.bytes view.old) i.now)) }
     ensures same { V.bytes view.new ≡ V.bytes view.old }
 {
     let d = &i.decoded;
-    let len = d.len as u32 + 1;
-    let used = used_until(len, hit_at(r, view, first_of(r, d), second_of(r, d), len));
-    let first = bytes_of(r, view, first_of(r, d), len);
-    paired(
-        whole(first_of(r, d), used, true, false),
-        used_at(second_of(r, d), front_of(first.as_slice(), used)),
-    )
+    let first = bytes_of(r, view, first_of(r, d), u32::from(d.len) + 1);
+    let mut functions = [0; 256];
+    gather(r, view, second_of(r, d), &mut functions);
+    tested(first.as_slice(), &functions)
 }
 
 /// The first bytes of a list.
@@ -108,35 +84,45 @@ fn paired(first: Operand, second: Operand) -> Operands
     }
 }
 
+/// The operands of TRT.
+pub(crate) fn test_operands<V: View>(r: &Registers, view: &mut V, i: &Instruction) -> Operands
+    requires fields { IsInRange i.now.decoded }
+    ensures operands { result ≡ test_line.operands (inputs r.now (V.bytes view.old) i.now) }
+    ensures fits { Fits result }
+    ensures same { V.bytes view.new ≡ V.bytes view.old }
+{
+    let d = &i.decoded;
+    let len = u32::from(d.len) + 1;
+    let used = used_until(len, find_hit(r, view, i));
+    let first = bytes_of(r, view, first_of(r, d), len);
+    paired(
+        whole(first_of(r, d), used, true, false),
+        used_at(second_of(r, d), front_of(first.as_slice(), used)),
+    )
+}
+
 /// The registers with the hit in registers 1 and 2.
 fn with_hit(r: &Registers, at: u32, hit: Option<Hit>) -> Registers
     ensures { result ≡ hit_registers r.now at hit }
 {
     let mut out = *r;
     if let Some(h) = hit {
-        out.general[1] = address_marked(r, at as u64 + h.at as u64);
-        out.general[2] = r.general[2] / 256 * 256 + h.function as u32;
+        out.general[1] = address_marked(r, u64::from(at) + u64::from(h.at));
+        out.general[2] = r.general[2] / 256 * 256 + u32::from(h.function);
     }
     out
 }
 
 /// What TRT does.
-pub(crate) fn test_effect<V: View>(
-    r: &Registers,
-    cpu: CpuNo,
-    view: &mut V,
-    side: &Side,
-    i: &Instruction,
-) -> Effect
+pub(crate) fn test_effect<V: View>(r: &Registers, view: &mut V, i: &Instruction) -> Effect
     requires fields { IsInRange i.now.decoded }
-    ensures effect { result ≡ translate_and_test_line.effect (inputs r.now cpu.0 (V.bytes view.old) side.now i.now) }
-    ensures covers { Covers (translate_and_test_line.operands (inputs r.now cpu.0 (V.bytes view.old) side.now i.now)) result }
+    ensures effect { result ≡ test_line.effect (inputs r.now (V.bytes view.old) i.now) }
+    ensures plain { IsPlain result }
     ensures quiet { IsQuiet result }
     ensures same { V.bytes view.new ≡ V.bytes view.old }
 {
     let d = &i.decoded;
-    let len = d.len as u32 + 1;
-    let hit = hit_at(r, view, first_of(r, d), second_of(r, d), len);
+    let hit = find_hit(r, view, i);
     let registers = with_hit(&after(r, i.len), first_of(r, d), hit);
-    leave(with_condition(&registers, code_of(len, hit)))
+    leave(with_condition(registers, code_of(u32::from(d.len) + 1, hit)))
 }

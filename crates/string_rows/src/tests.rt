@@ -1,64 +1,37 @@
-// Rows on bytes and on decimal fields, worked by hand from the Principles of Operation. All numbers are hexadecimal.
-// Register 4 has X'200' and register 5 has X'300', where most operands begin; the instruction is at X'1000'.
-ghost use Rattle.std.specs.Prelude.{IfSome};
+// Rows on bytes and on decimal fields, worked by hand from the Principles of Operation: that each
+// takes its own operands, byte after byte, and puts addresses into registers by the mode. An
+// instruction is a number of six bytes, and its operands are numbers of eight bytes at X'200' and
+// at X'300', where registers 4 and 5 point.
+ghost use Rattle.std.specs.Prelude.{IfSome, IsTrue};
+ghost use Rattle.esa_model.specs.Rows.All.{is_of_kind};
 ghost use Rattle.row_frame.specs.Made.{IsInRange};
 
 use crate::{bytes, decimals};
 use abs_storage::AbsStorage;
-use arrayvec::ArrayVec;
-use esa_model::machine::{CpuNo, Psw, Registers};
-use esa_table::decode;
-use operand_access::{Operand, Operands};
-use result_packet::{Console, Side};
+use esa_model::events::Interruption;
+use esa_model::machine::{Psw, Registers};
+use esa_table::{Kind, decode, kind, row};
+use operand_access::Operands;
 use row_frame::{Effect, Instruction};
-use sigp_bus::Bus;
 use std::alloc::Global;
 use std::test::Fail;
-use storage_keys::Keys;
 
-/// A word of a line.
-fn word(line: &str, n: usize) -> &str {
-    line.split_whitespace().nth(n).unwrap_or("")
-}
+/// Registers 1 and 2 at first.
+const MARK: u32 = 0xA1B2_C3D4;
 
-fn digit(letter: u8) -> u8 {
-    match letter {
-        b'0'..=b'9' => letter - b'0',
-        b'A'..=b'F' => letter - b'A' + 10,
-        _ => 0,
-    }
-}
+const SECOND_MARK: u32 = 0xB2C3_D4E5;
 
-/// The number that a word of a line is.
-fn number(line: &str, n: usize) -> u32 {
-    let mut value: u32 = 0;
-    for letter in word(line, n).bytes() {
-        value = value.wrapping_mul(16).wrapping_add(digit(letter) as u32);
-    }
-    value
-}
+/// The second word of a PSW in 31-bit mode, and in 24-bit mode.
+const WIDE: u32 = 0x8000_1000;
 
-/// The bytes that a word of a line lists; `-` lists none.
-fn listed(line: &str, n: usize) -> ArrayVec<u8, 256> {
-    let mut list = ArrayVec::new();
-    let mut left = None;
-    for letter in word(line, n).bytes() {
-        left = match left {
-            None => Some(digit(letter)),
-            Some(high) => {
-                let _ = list.try_push(digit(letter).wrapping_add(high.wrapping_mul(16)));
-                None
-            }
-        };
-    }
-    list
-}
+const NARROW: u32 = 0x1000;
 
-/// Registers with the PSW and the operands of a long instruction that words of a line are.
-fn registers(line: &str, psw: usize, long: [u32; 4]) -> Registers {
+/// Registers in the mode of a PSW's second word, with condition code 3, registers 1 and 2 marked
+/// and registers 8 to 11 as they are given.
+fn registers(w1: u32, long: [u32; 4]) -> Registers {
     let mut general = [0xFFFF_FFFF; 16];
-    general[1] = 0xA1B2_C3D4;
-    general[2] = 0xB2C3_D4E5;
+    general[1] = MARK;
+    general[2] = SECOND_MARK;
     general[4] = 0x200;
     general[5] = 0x300;
     general[8..12].copy_from_slice(&long);
@@ -66,318 +39,349 @@ fn registers(line: &str, psw: usize, long: [u32; 4]) -> Registers {
         general,
         control: [0; 16],
         psw: Psw {
-            w0: number(line, psw),
-            w1: number(line, psw.saturating_add(1)),
+            w0: 0x0008_3000,
+            w1,
         },
         prefix: 0,
+        clocks: [0; 4],
     }
 }
 
-/// Four words of a line.
-fn four(line: &str, n: usize) -> [u32; 4] {
-    [
-        number(line, n),
-        number(line, n.saturating_add(1)),
-        number(line, n.saturating_add(2)),
-        number(line, n.saturating_add(3)),
-    ]
-}
-
-fn new_side(alloc: Global) -> Result<Side, Fail> {
-    let Ok(keys) = Keys::new(alloc, 2) else {
-        return Err("no memory".into());
-    };
-    let Ok(bus) = Bus::new(alloc, 1) else {
-        return Err("no memory".into());
-    };
-    let console = Console::new(Vec::new(alloc));
-    Ok(Side { keys, bus, console })
-}
-
-fn put(storage: &mut AbsStorage, at: u32, bytes: &[u8]) {
+fn put(storage: &mut AbsStorage, at: u32, number: u64) {
     let mut next = at;
-    for b in bytes {
-        let _ = storage.store(next, *b);
+    for byte in number.to_be_bytes() {
+        let _ = storage.store(next, byte);
         next = next.saturating_add(1);
     }
 }
 
-/// Storage of two pages, zero but for the bytes at two addresses, which a word of a line and the next list.
-fn new_storage(
-    alloc: Global,
-    line: &str,
-    n: usize,
-    to: u32,
-    from: u32,
-) -> Result<AbsStorage, Fail> {
-    let Ok(mut storage) = AbsStorage::new(alloc, 0x2000) else {
+/// Storage of one page, zero but for eight bytes at each of two addresses.
+fn new_storage(alloc: Global, at: [u32; 2], numbers: [u64; 2]) -> Result<AbsStorage, Fail> {
+    let Ok(mut storage) = AbsStorage::new(alloc, 0x1000) else {
         return Err("no memory".into());
     };
-    put(&mut storage, to, listed(line, n).as_slice());
-    put(
-        &mut storage,
-        from,
-        listed(line, n.saturating_add(1)).as_slice(),
-    );
+    put(&mut storage, at[0], numbers[0]);
+    put(&mut storage, at[1], numbers[1]);
     Ok(storage)
 }
 
-/// The instruction that the first word of a line lists.
-fn placed(line: &str) -> Option<Instruction>
-    ensures { IfSome result (λ i. IsInRange i.decoded) }
+struct Placed {
+    instruction: Instruction,
+    kind: Kind,
+    opcode: u16,
+}
+
+/// An instruction at X'1000'.
+fn place(code: u64) -> Option<Placed>
+    ensures range { IfSome result (λ p. IsInRange p.instruction.decoded) }
+    ensures known { IfSome result (λ p. IsTrue (is_of_kind p.kind p.opcode)) }
 {
-    let list = listed(line, 0);
-    let mut bytes = [0; 6];
-    for (k, b) in list.as_slice().iter().enumerate() {
-        if k < 6 {
-            bytes[k] = *b;
-        }
-    }
-    let decoded = decode(&bytes)?;
-    Some(Instruction {
+    let [_, _, a, b, c, d, e, f] = code.to_be_bytes();
+    let decoded = decode(&[a, b, c, d, e, f])?;
+    let opcode = row(decoded.row)?.opcode;
+    let kind = kind(decoded.row)?;
+    let instruction = Instruction {
         decoded,
         own: 0x1000,
-        len: list.len().min(6) as u8,
+        len: match a {
+            0..=0x3F => 2,
+            0x40..=0xBF => 4,
+            _ => 6,
+        },
+    };
+    Some(Placed {
+        instruction,
+        kind,
+        opcode,
     })
 }
 
-/// The operands of an instruction, and what it does; none where its numbers are not in order.
-fn run(
-    line: &str,
-    r: &Registers,
-    storage: &mut AbsStorage,
-    side: &Side,
-) -> Option<(Operands, Effect)> {
-    let i = placed(line)?;
-    let opcode = *listed(line, 0).as_slice().first()? as u16;
-    let cpu = CpuNo(0);
-    if opcode >= 0xF0 || matches!(opcode, 0xDE | 0xDF | 0x4E | 0x4F) {
-        if !decimals::in_order(opcode, r, cpu, storage, side, &i) {
-            return None;
+/// The operands of an instruction, and what it does; None where its numbers are not in order.
+#[tactic(auto, unfolding(esa_model::specs::Rows::All::is_of_kind))]
+fn run(code: u64, r: &Registers, storage: &mut AbsStorage) -> Option<(Operands, Effect)> {
+    let Placed {
+        instruction: i,
+        kind,
+        opcode,
+    } = place(code)?;
+    match kind {
+        Kind::Bytes(kind) if bytes::in_order(kind, opcode, r, storage, &i) => {
+            let os = bytes::operands(kind, opcode, r, storage, &i);
+            Some((os, bytes::effect_of(kind, opcode, r, storage, &i)))
         }
-        let os = decimals::operands(opcode, r, cpu, storage, side, &i);
-        return Some((os, decimals::effect_of(opcode, r, cpu, storage, side, &i)));
+        Kind::Decimals(kind) if decimals::in_order(kind, opcode, r, storage, &i) => {
+            let os = decimals::operands(kind, opcode, r, storage, &i);
+            Some((os, decimals::effect_of(kind, opcode, r, storage, &i)))
+        }
+        _ => None,
     }
-    if !bytes::in_order(opcode, r, cpu, storage, side, &i) {
-        return None;
-    }
-    let os = bytes::operands(opcode, r, cpu, storage, side, &i);
-    Some((os, bytes::effect_of(opcode, r, cpu, storage, side, &i)))
 }
 
-/// An instruction, the PSW, the bytes at X'200' and at X'300'; the bytes stored, the PSW, the interruption after it,
-/// registers 1 and 2 where they change.
-const ROWS: [&str; 52] = [
-    // MVN, MVC, MVZ, NC, OC, XC
-    "D10040005000 00083000 80001000 12 A5 15 00083000 80001006",
-    "D20140005000 00083000 80001000 0102 0506 0506 00083000 80001006",
-    "D30040005000 00083000 80001000 12 A5 A2 00083000 80001006",
-    "D40140005000 00083000 80001000 0FF0 0F0F 0F00 00081000 80001006",
-    "D40140005000 00083000 80001000 F0F0 0F0F 0000 00080000 80001006",
-    "D60140005000 00083000 80001000 0000 0000 0000 00080000 80001006",
-    "D70140005000 00083000 80001000 A501 A501 0000 00080000 80001006",
-    // CLC, TR, MVCIN
-    "D50140005000 00083000 80001000 1234 1234 - 00080000 80001006",
-    "D50140005000 00083000 80001000 1234 1300 - 00081000 80001006",
-    "D50140005000 00083000 80001000 1234 1233 - 00082000 80001006",
-    "DC0240005000 00083000 80001000 010300 10111213 111310 00083000 80001006",
-    "E80240005002 00083000 80001000 - 010203 030201 00083000 80001006",
-    // the first operand one byte after the second: each byte comes from the one that was stored before
-    "D20250015000 00083000 80001000 - 01020304 010101 00083000 80001006",
-    "D40250015000 00083000 80001000 - 0FFFFFF0 0F0F00 00081000 80001006",
-    "D60250015000 00083000 80001000 - 01020408 03070F 00081000 80001006",
-    "D70250015000 00083000 80001000 - 01030200 020000 00081000 80001006",
-    "DC0150015000 00083000 80001000 - 070001 0707 00083000 80001006",
-    // at the same place, and one byte before it
-    "D70250005000 00083000 80001000 - 010302 000000 00080000 80001006",
-    "D20250005001 00083000 80001000 - 01020304 020304 00083000 80001006",
-    // TRT in both modes; the function byte of 7 is 9
-    "DD0240005000 00083000 80001000 010707 0000000000000009 - 00081000 80001006 000000 00000201 B2C3D409",
-    "DD0240005000 00083000 80001000 010207 0000000000000009 - 00082000 80001006 000000 00000202 B2C3D409",
-    "DD0240005000 00083000 80001000 010203 0000000000000009 - 00080000 80001006",
-    "DD0240005000 00083000 00001000 010707 0000000000000009 - 00081000 00001006 000000 A1000201 B2C3D409",
-    "DD0240005000 00083000 00001000 010207 0000000000000009 - 00082000 00001006 000000 A1000202 B2C3D409",
-    "DD0240005000 00083000 00001000 010203 0000000000000009 - 00080000 00001006",
-    // Edit: ED, and EDMK in both modes
-    "DE0640005000 00083000 80001000 402020214B2020 00123C 404040F14BF2F3 00082000 80001006",
-    "DE0640005000 00083000 80001000 402020214B2020 00123D 404040F14BF2F3 00081000 80001006",
-    "DE0640005000 00083000 80001000 402020214B2020 00000C 404040404BF0F0 00080000 80001006",
-    "DF0640005000 00083000 80001000 402020214B2020 00123C 404040F14BF2F3 00082000 80001006 000000 00000203 B2C3D4E5",
-    "DF0640005000 00083000 00001000 402020214B2020 00123C 404040F14BF2F3 00082000 00001006 000000 A1000203 B2C3D4E5",
-    "DF0640005000 00083000 80001000 402020214B2020 00000C 404040404BF0F0 00080000 80001006",
-    // Decimal overflow: AP, which interrupts by its mask; AP, SP, ZAP, CP
-    "FA1040005000 00080000 80001000 999C 1C 000C 00083000 80001006",
-    "FA1040005000 00080B00 80001000 999C 1C 000C 00083B00 80001006",
-    "FA1040005000 00080400 80001000 999C 1C 000C 00083400 80001006 010A00",
-    "FA1040005000 00080000 80001000 999D 1D 000D 00083000 80001006",
-    "FA0040005000 00083000 80001000 1C 1D 0C 00080000 80001006",
-    "FB0040005000 00083000 80001000 1C 2F 1D 00081000 80001006",
-    "F81040005000 00083000 80001000 AAAA 2F 002C 00082000 80001006",
-    "F91040005000 00083000 80001000 001C 2C - 00081000 80001006",
-    // MP, DP, SRP
-    "FC2040005000 00083000 80001000 00012C 2C 00024C 00083000 80001006",
-    "FD2040005000 00083000 80001000 00123C 5C 024C3C 00083000 80001006",
-    "F0254000003F 00083000 80001000 12345C - 01235C 00082000 80001006",
-    "F02040000042 00080400 80001000 12345D - 34500D 00083400 80001006 010A00",
-    // MVO, PACK, UNPK
-    "F13140005000 00083000 80001000 0708090C 1234 0001234C 00083000 80001006",
-    "F21240005000 00083000 80001000 - F1F2C3 123C 00083000 80001006",
-    "F32140005000 00083000 80001000 - 123C F1F2C3 00083000 80001006",
-    // CVD, CVB
-    "4E605000 00083000 80001000 - - 000000000000001D 00083000 80001004",
-    "4F105000 00083000 80001000 - 000000000000001B - 00083000 80001004 000000 FFFFFFFF B2C3D4E5",
-    // Decimal divide: quotient too long, divisor zero; a bad digit; too large for a word
-    "FD2040005000 00083000 80001000 01234C 1C * - - 00000B",
-    "FD2040005000 00083000 80001000 00123C 0C * - - 00000B",
-    "DE0140005000 00083000 80001000 4020 A2 * - - 000007",
-    "4F105000 00083000 80001000 - 000002147483648C * - - 000009",
+/// The number that at most eight bytes spell.
+fn number_of(bytes: &[u8]) -> u64 {
+    bytes.iter().fold(0u64, |number, byte| {
+        number.wrapping_mul(256).wrapping_add(u64::from(*byte))
+    })
+}
+
+/// The instruction, the words at X'200' and at X'300'; whether the first operand is fetched; how
+/// many bytes are stored, and their number; the condition code after it.
+type StoreCase = (u64, u32, u32, bool, usize, u64, u8);
+
+const STORE_CASES: [StoreCase; 15] = [
+    // MVN 0(1,4),0(5), MVC 0(2,4),0(5), CLC 0(2,4),0(5)
+    (0xD100_4000_5000, 0x1200_0000, 0xA500_0000, true, 1, 0x15, 3),
+    (
+        0xD201_4000_5000,
+        0x0102_0000,
+        0x0506_0000,
+        false,
+        2,
+        0x506,
+        3,
+    ),
+    (0xD501_4000_5000, 0x1234_0000, 0x1300_0000, true, 0, 0, 1),
+    // the first operand one byte after the second: MVC 1(3,5),0(5), NC, XC; and at the same place
+    (0xD202_5001_5000, 0, 0x0102_0304, false, 3, 0x01_0101, 3),
+    (0xD402_5001_5000, 0, 0x0FFF_FFF0, true, 3, 0x0F_0F00, 1),
+    (0xD702_5001_5000, 0, 0x0103_0200, true, 3, 0x02_0000, 1),
+    (0xD702_5000_5000, 0, 0x0103_0200, true, 3, 0, 0),
+    // TR 0(3,4),0(5), TR 1(2,5),0(5), MVCIN 0(3,4),2(5)
+    (
+        0xDC02_4000_5000,
+        0x0103_0000,
+        0x1011_1213,
+        true,
+        3,
+        0x11_1310,
+        3,
+    ),
+    (0xDC01_5001_5000, 0, 0x0700_0100, true, 2, 0x0707, 3),
+    (0xE802_4000_5002, 0, 0x0102_0300, false, 3, 0x03_0201, 3),
+    // AP 0(2,4),0(1,5), ZAP 0(2,4),0(1,5), CP 0(2,4),0(1,5), SRP 0(3,4),63,5
+    (
+        0xFA10_4000_5000,
+        0x999C_0000,
+        0x1C00_0000,
+        true,
+        2,
+        0x000C,
+        3,
+    ),
+    (
+        0xF810_4000_5000,
+        0xAAAA_0000,
+        0x2F00_0000,
+        false,
+        2,
+        0x2C,
+        2,
+    ),
+    (0xF910_4000_5000, 0x001C_0000, 0x2C00_0000, true, 0, 0, 1),
+    (0xF025_4000_003F, 0x1234_5C00, 0, true, 3, 0x01_235C, 2),
+    // CVD 6,0(0,5)
+    (0x4E60_5000_0000, 0, 0, false, 8, 0x1D, 3),
 ];
 
-/// Whether an instruction leaves what its line says.
-fn leaves(e: &Effect, line: &str) -> bool {
-    let marks = if word(line, 9) == "" {
-        [0xA1B2_C3D4, 0xB2C3_D4E5]
-    } else {
-        [number(line, 9), number(line, 10)]
-    };
-    *e.stored.as_slice() == *listed(line, 5).as_slice()
-        && e.registers.psw.w0 == number(line, 6)
-        && e.registers.psw.w1 == number(line, 7)
-        && [e.registers.general[1], e.registers.general[2]] == marks
-}
-
 #[test]
-fn rows(rt: HostRuntime) -> Result<(), Fail> {
-    let side = new_side(rt.alloc())?;
-    for line in ROWS {
-        let mut storage = new_storage(rt.alloc(), line, 3, 0x200, 0x300)?;
-        let Some((_, e)) = run(line, &registers(line, 1, [0; 4]), &mut storage, &side) else {
-            return Err("not in order".into());
+fn rows_that_store(rt: HostRuntime) -> Result<(), Fail> {
+    let r = registers(WIDE, [0; 4]);
+    for (code, first, second, fetched, count, stored, condition) in STORE_CASES {
+        let numbers = [u64::from(first) << 32, u64::from(second) << 32];
+        let mut storage = new_storage(rt.alloc(), [0x200, 0x300], numbers)?;
+        let Some((os, e)) = run(code, &r, &mut storage) else {
+            return Err("a row is not in order".into());
         };
-        let ends = number(line, 8);
-        assert_eq!(rt;
-            u32::from_be_bytes([0, e.kind, e.code, e.fault]),
-            ends,
-            "{line}"
-        );
-        assert!(rt; e.fault != 0 || leaves(&e, line), "{line}");
+        assert_eq!(rt; os.first.fetch, fetched, "row {code}");
+        assert_eq!(rt; e.stored.len(), count, "row {code}");
+        assert_eq!(rt; number_of(e.stored.as_slice()), stored, "row {code}");
+        assert_eq!(rt; e.registers.psw.condition_code(), condition, "row {code}");
     }
     Ok(())
 }
 
-/// Units of MVCL and CLCL, and MVC of 256 bytes: an instruction, the PSW, registers 8 to 11, the bytes at registers 8
-/// and 10; how many bytes are stored, the front of them, whose last byte is repeated; the PSW and registers 8 to 11.
-const LONG: [&str; 15] = [
-    // Long move: MVCL of 600 bytes
-    "0E8A 00083000 80001000 80000400 77000258 80000800 40000258 - 11 100 1100 00083000 80001000 500 77000158 900 40000158",
-    "0E8A 00083000 80001000 500 77000158 900 40000158 - 22 100 2200 00083000 80001000 600 77000058 A00 40000058",
-    "0E8A 00083000 80001000 600 77000058 A00 40000058 - 33 58 3300 00080000 80001002 658 77000000 A58 40000000",
-    // the first longer, the second longer, both without a byte, and in 24-bit mode
-    "0E8A 00083000 80001000 400 3 800 40000001 - 1112 3 1140 00082000 80001002 403 0 801 40000000",
-    "0E8A 00083000 80001000 400 1 800 3 - 1112 1 11 00081000 80001002 401 0 801 2",
-    "0E8A 00083000 80001000 FF000400 77000000 EE000800 0 - - 0 - 00080000 80001002 7F000400 77000000 6E000800 0",
-    "0E8A 00083000 00001000 FF000400 2 EE000800 40000001 - 11 2 1140 00082000 00001002 402 0 801 40000000",
-    // a byte would be fetched after it was stored into
-    "0E8A 00080000 80001000 80000801 3 800 3 - - 0 - 00083000 80001002 80000801 3 800 3",
-    // CLCL: equal, first low, first high in 24-bit mode; with pad bytes; equal so far
-    "0F8A 00083000 80001000 80000400 77000003 80000800 40000003 010203 010203 0 - 00080000 80001002 403 77000000 803 40000000",
-    "0F8A 00083000 80001000 80000400 77000003 80000800 40000003 010203 010303 0 - 00081000 80001002 401 77000002 801 40000002",
-    "0F8A 00083000 00001000 FF000400 1 EE000800 1 05 04 0 - 00082000 00001002 400 1 800 1",
-    "0F8A 00083000 80001000 400 2 800 40000001 0140 01 0 - 00080000 80001002 402 0 801 40000000",
-    "0F8A 00083000 80001000 400 2 800 40000001 0141 01 0 - 00082000 80001002 401 1 801 40000000",
-    "0F8A 00083000 80001000 80000400 258 80000800 258 - - 0 - 00083000 80001000 500 158 900 158",
-    // Propagation: one byte
-    "D2FF50015000 00083000 80001000 0 0 300 0 - 5B 100 5B 00083000 80001006 0 0 300 0",
+/// TRT 0(3,4),0(5), EDMK 0(7,4),0(5) and CVB 1,0(0,5).
+const TEST: u64 = 0xDD02_4000_5000;
+
+const EDIT: u64 = 0xDF06_4000_5000;
+
+const CONVERT: u64 = 0x4F10_5000_0000;
+
+const PATTERN: u64 = 0x4020_2021_4B20_2000;
+
+const SHOWN: u64 = 0x40_4040_F14B_F2F3;
+
+/// The instruction, the second word of the PSW, the bytes at X'200' and at X'300'; the number of
+/// the bytes that are stored; the condition code, register 1 and the last byte of register 2 after
+/// it.
+type MarkCase = (u64, u32, u64, u64, u64, u8, u32, u8);
+
+const MARK_CASES: [MarkCase; 6] = [
+    // the function byte of 7 is 9
+    (TEST, WIDE, 0x01_0707 << 40, 9, 0, 1, 0x201, 9),
+    (TEST, NARROW, 0x01_0207 << 40, 9, 0, 2, 0xA100_0202, 9),
+    (TEST, WIDE, 0x01_0203 << 40, 9, 0, 0, MARK, 0xE5),
+    (EDIT, WIDE, PATTERN, 0x123C << 40, SHOWN, 2, 0x203, 0xE5),
+    (
+        EDIT,
+        NARROW,
+        PATTERN,
+        0x123C << 40,
+        SHOWN,
+        2,
+        0xA100_0203,
+        0xE5,
+    ),
+    (CONVERT, WIDE, 0, 0x1B, 0, 3, 0xFFFF_FFFF, 0xE5),
 ];
 
-/// Whether bytes are these, and then the last of these again and again.
-fn goes_on(stored: &[u8], front: &[u8]) -> bool {
-    stored.starts_with(front)
-        && stored
-            .iter()
-            .skip(front.len())
-            .all(|b| Some(b) == front.last())
+#[test]
+fn rows_that_mark(rt: HostRuntime) -> Result<(), Fail> {
+    for (code, w1, first, second, stored, condition, mark, last) in MARK_CASES {
+        let r = registers(w1, [0; 4]);
+        let mut storage = new_storage(rt.alloc(), [0x200, 0x300], [first, second])?;
+        let Some((_, e)) = run(code, &r, &mut storage) else {
+            return Err("a row is not in order".into());
+        };
+        assert_eq!(rt; number_of(e.stored.as_slice()), stored, "row {code}");
+        assert_eq!(rt; e.registers.psw.condition_code(), condition, "row {code}");
+        assert_eq!(rt; e.registers.general[1], mark, "row {code}");
+        assert_eq!(rt;
+            e.registers.general[2] % 0x100,
+            u32::from(last),
+            "row {code}"
+        );
+    }
+    Ok(())
 }
+
+/// MVCL 8,10 or CLCL 8,10, the second word of the PSW, registers 8 to 11, the bytes where they
+/// point; how many bytes are stored; the condition code, the address and the registers after it.
+type UnitCase = (u64, u32, [u32; 4], [u64; 2], usize, u8, u32, [u32; 4]);
+
+const MOVE: u64 = 0x0E8A_0000_0000;
+
+const COMPARE: u64 = 0x0F8A_0000_0000;
+
+const UNIT_CASES: [UnitCase; 6] = [
+    // 600 bytes: the first unit, and the last
+    (
+        MOVE,
+        WIDE,
+        [0x8000_0400, 0x7700_0258, 0x8000_0800, 0x4000_0258],
+        [0, 0x11],
+        256,
+        3,
+        0x1000,
+        [0x500, 0x7700_0158, 0x900, 0x4000_0158],
+    ),
+    (
+        MOVE,
+        WIDE,
+        [0x600, 0x7700_0058, 0xA00, 0x4000_0058],
+        [0, 0x33],
+        88,
+        0,
+        0x1002,
+        [0x658, 0x7700_0000, 0xA58, 0x4000_0000],
+    ),
+    // in 24-bit mode, with a pad byte
+    (
+        MOVE,
+        0x1000,
+        [0xFF00_0400, 2, 0xEE00_0800, 0x4000_0001],
+        [0, 0x11 << 56],
+        2,
+        2,
+        0x1002,
+        [0x402, 0, 0x801, 0x4000_0000],
+    ),
+    // a byte would be fetched after it was stored into
+    (
+        MOVE,
+        WIDE,
+        [0x8000_0801, 3, 0x800, 3],
+        [0, 0],
+        0,
+        3,
+        0x1002,
+        [0x8000_0801, 3, 0x800, 3],
+    ),
+    // unequal at the second byte; equal so far
+    (
+        COMPARE,
+        WIDE,
+        [0x8000_0400, 0x7700_0003, 0x8000_0800, 0x4000_0003],
+        [0x01_0203 << 40, 0x01_0303 << 40],
+        0,
+        1,
+        0x1002,
+        [0x401, 0x7700_0002, 0x801, 0x4000_0002],
+    ),
+    (
+        COMPARE,
+        WIDE,
+        [0x8000_0400, 0x258, 0x8000_0800, 0x258],
+        [0, 0],
+        0,
+        3,
+        0x1000,
+        [0x500, 0x158, 0x900, 0x158],
+    ),
+];
 
 #[test]
 fn long_units(rt: HostRuntime) -> Result<(), Fail> {
-    let side = new_side(rt.alloc())?;
-    for line in LONG {
-        let [to, _, from, _] = four(line, 3);
-        let mut storage = new_storage(rt.alloc(), line, 7, to % 0x2000, from % 0x2000)?;
-        let Some((_, e)) = run(
-            line,
-            &registers(line, 1, four(line, 3)),
-            &mut storage,
-            &side,
-        ) else {
-            return Err("not in order".into());
+    for (code, w1, long, numbers, count, condition, next, after) in UNIT_CASES {
+        let at = [long[0] % 0x1000, long[2] % 0x1000];
+        let mut storage = new_storage(rt.alloc(), at, numbers)?;
+        let Some((_, e)) = run(code, &registers(w1, long), &mut storage) else {
+            return Err("a row is not in order".into());
         };
-        assert_eq!(rt; e.stored.len() as u32, number(line, 9), "{line}");
-        assert!(rt;
-            goes_on(e.stored.as_slice(), listed(line, 10).as_slice()),
-            "{line}"
+        assert_eq!(rt; e.stored.len(), count, "row {code}");
+        assert_eq!(rt; e.registers.psw.condition_code(), condition, "row {code}");
+        assert_eq!(rt; e.registers.psw.address(), next, "row {code}");
+        assert_eq!(rt;
+            e.registers.general,
+            registers(w1, after).general,
+            "row {code}"
         );
-        assert_eq!(rt; e.registers, registers(line, 11, four(line, 13)), "{line}");
     }
     Ok(())
 }
 
-/// An instruction, the bytes at X'200' and at X'300'; of the first operand the number of bytes, and whether they are
-/// fetched and stored; of the second its address and the offsets of the bytes that are used.
-const USED: [&str; 17] = [
-    "D20240005000 - - 3 01 300 000102",
-    "D70140005000 - - 2 11 300 0001",
-    "D50140005000 - - 2 10 300 0001",
-    "E80240005002 - - 3 01 300 000102",
-    "DC0240005000 010300 - 3 11 300 010300",
-    "DD0240005000 010702 0000000000000009 2 10 300 0107",
-    "DD0240005000 010203 0000000000000009 3 10 300 010203",
-    "0E8A - - 3 01 300 00",
-    "0F8A - - 3 10 300 00",
-    "DE0640005000 402020214B2020 00123C 7 11 300 000102",
-    // the bytes after a bad digit are not used
-    "DE0640005000 402020214B2020 00A23C 7 11 300 0001",
-    "FA1040005000 - - 2 11 300 00",
-    "F81040005000 - - 2 01 300 00",
-    "F90140005000 - - 1 10 300 0001",
-    "F02040000001 - - 3 11 0 -",
-    "4E604000 - - 8 01 0 -",
-    "4F604000 - - 8 10 0 -",
+/// An instruction, the bytes at X'200' and at X'300'; the interruption after it and its code; the
+/// program code that suppresses it.
+type EndCase = (u64, u64, u64, Option<Interruption>, u8, u8);
+
+const OVERFLOW: Option<Interruption> = Some(Interruption::Program);
+
+const END_CASES: [EndCase; 4] = [
+    // AP 0(2,4),0(1,5), DP 0(3,4),0(1,5) by zero
+    (0xFA10_4000_5000, 0x999C << 48, 0x1C << 56, OVERFLOW, 10, 0),
+    (0xFD20_4000_5000, 0x123C << 40, 0x0C << 56, None, 0, 11),
+    // ED 0(2,4),0(5) of a bad digit, CVB 1,0(0,5) of a number that is too large
+    (0xDE01_4000_5000, 0x4020 << 48, 0xA2 << 56, None, 0, 7),
+    (CONVERT, 0, 0x0000_0214_7483_648C, None, 0, 9),
 ];
 
-/// Whether a first operand has so many bytes, fetched and stored or not.
-fn is_used(o: &Operand, count: u32, flags: u32) -> bool {
-    o.at == 0x200
-        && o.offsets.len() as u32 == count
-        && o.fetch == (flags >= 0x10)
-        && o.store == (flags % 0x10 == 1)
-}
-
+/// A decimal overflow interrupts where its mask bit is one; other codes suppress.
 #[test]
-fn operands(rt: HostRuntime) -> Result<(), Fail> {
-    let side = new_side(rt.alloc())?;
-    let r = registers("00083000 80001000", 0, [0x200, 3, 0x300, 0x4000_0001]);
-    for line in USED {
-        let mut storage = new_storage(rt.alloc(), line, 1, 0x200, 0x300)?;
-        let Some((os, _)) = run(line, &r, &mut storage, &side) else {
-            return Err("not in order".into());
+fn exceptions(rt: HostRuntime) -> Result<(), Fail> {
+    let mut r = registers(WIDE, [0; 4]);
+    r.psw.w0 = 0x0008_0400;
+    for (code, first, second, interruption, program_code, fault) in END_CASES {
+        let mut storage = new_storage(rt.alloc(), [0x200, 0x300], [first, second])?;
+        let Some((_, e)) = run(code, &r, &mut storage) else {
+            return Err("a row is not in order".into());
         };
-        assert!(rt;
-            is_used(&os.first, number(line, 3), number(line, 4)),
-            "{line}"
-        );
-        assert_eq!(rt; os.second.at, number(line, 5), "{line}");
-        assert!(rt;
-            *os.second.offsets.as_slice() == *listed(line, 6).as_slice(),
-            "{line}"
-        );
-        assert!(rt; os.paired == line.starts_with("DD"), "{line}");
+        assert!(rt; e.interruption == interruption, "row {code}");
+        assert_eq!(rt; [e.code, e.fault], [program_code, fault], "row {code}");
     }
-    // a multiplier of nine bytes, one as long as its first operand, an odd register
-    let mut storage = new_storage(rt.alloc(), "", 0, 0, 0)?;
-    for line in ["FC9840005000", "FC1140005000", "0E8B"] {
-        assert!(rt; run(line, &r, &mut storage, &side).is_none(), "{line}");
+    // MP of a multiplier of nine bytes, and of one as long as its first operand; MVCL 8,11
+    let mut storage = new_storage(rt.alloc(), [0, 0], [0, 0])?;
+    for code in [0xFC98_4000_5000, 0xFC11_4000_5000, 0x0E8B_0000_0000] {
+        assert!(rt; run(code, &r, &mut storage).is_none(), "row {code}");
     }
     Ok(())
 }

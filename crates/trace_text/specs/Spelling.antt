@@ -1,8 +1,16 @@
--- The changed bytes of a line one by one, from the left, as the line is written.
-use Rattle.std.specs.Prelude.{ℕ, ◌+◌, ◌==◌, Bool, true, false, not, List, [], ◌∷◌, ◌++◌, Option, Some, None}
-use Rattle.esa_model.specs.Numbers.{hex_text}
-use Rattle.esa_model.specs.Trace.{stretch_start}
+-- A line from the left, as it is written: its start, and then the changed bytes one by one.
+-- Source: choice of this project.
+use Rattle.std.specs.Prelude.{ℕ, ◌+◌, ◌==◌, Bool, true, false, not, List, [], ◌∷◌, ◌++◌, Option, Some, None, codes}
+use Rattle.run_model.specs.Numbers.{decimal, hex_text}
+use Rattle.run_model.specs.Trace.{stretch_start}
 use Rattle.esa_model.specs.declared.changes.Changed.{Changed}
+use Rattle.esa_model.specs.declared.machine.Psw.{Psw}
+
+-- the line as far as the PSW
+abbrev pub line_start : ℕ → ℕ → Psw → List ℕ
+line_start commit cpu psw =
+    decimal commit ++ codes " C" ++ decimal cpu ++ codes " " ++ hex_text 8 psw.w0
+    ++ codes " " ++ hex_text 8 psw.w1
 
 -- the byte stands at the address that goes on
 abbrev pub goes_on : Option ℕ → Changed → Bool

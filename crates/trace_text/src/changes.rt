@@ -3,7 +3,7 @@
 
 ghost use Rattle.std.specs.Prelude.{◌≡◌, ◌+◌, ◌≤◌, ◌++◌, not, length};
 ghost use Rattle.arrayvec.specs.ArrayVec.{array_vec_len};
-ghost use Rattle.esa_model.specs.Trace.{changes_text, stretch_start};
+ghost use Rattle.run_model.specs.Trace.{changes_text, stretch_start};
 ghost use Rattle.trace_text.specs.Spelling.{goes_on, spelled_byte};
 
 use arrayvec::ArrayVec;

@@ -1,10 +1,11 @@
 // A whole line.
 #![tactic(auto)]
 
-ghost use Rattle.std.specs.Prelude.{◌≡◌, ◌≤◌, ◌++◌, ◌∷◌, [], length, codes};
+ghost use Rattle.std.specs.Prelude.{◌≡◌, ◌≤◌, length};
 ghost use Rattle.arrayvec.specs.ArrayVec.{array_vec_len};
-ghost use Rattle.esa_model.specs.Numbers.{decimal as decimal_text, hex_text};
-ghost use Rattle.esa_model.specs.Trace.{stretches, trace_line};
+ghost use Rattle.esa_model.specs.Changes.{stretches};
+ghost use Rattle.run_model.specs.Trace.{trace_line};
+ghost use Rattle.trace_text.specs.Spelling.{line_start};
 
 use crate::Changed;
 use crate::changes::{put, put_changes};
@@ -15,7 +16,7 @@ use esa_words::{decimal, hex8};
 // The line as far as the PSW.
 fn head(commit: u64, cpu: CpuNo, psw: Psw) -> ArrayVec<u8, 2048>
     requires { commit ≤ 1000000 }
-    ensures text { result.items ≡ decimal_text commit ++ codes " C" ++ decimal_text cpu.0 ++ codes " " ++ hex_text 8 psw.w0 ++ codes " " ++ hex_text 8 psw.w1 }
+    ensures text { result.items ≡ line_start commit cpu.0 psw }
     ensures room { array_vec_len result ≤ 60 }
 {
     let mut out = ArrayVec::new();
@@ -29,9 +30,9 @@ fn head(commit: u64, cpu: CpuNo, psw: Psw) -> ArrayVec<u8, 2048>
     out
 }
 
-/// The line of a commit: its number, its CPU, the PSW after it, and the bytes of storage whose values
-/// it changed, which are at most 268 in at most 140 stretches of successive addresses.
-#[tactic(auto, unfolding(esa_model::specs::Trace::trace_line))]
+/// The line of a commit: its number, its CPU, the PSW after it, and the bytes of storage whose
+/// values it changed, which are at most 268 in at most 140 stretches of successive addresses.
+#[tactic(auto, unfolding(run_model::specs::Trace::trace_line))]
 pub fn line(commit: u64, cpu: CpuNo, psw: Psw, changed: &[Changed]) -> ArrayVec<u8, 2048>
     requires commits { commit ≤ 1000000 }
     requires bytes { length changed.now ≤ 268 }

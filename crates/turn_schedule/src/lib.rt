@@ -1,4 +1,4 @@
-//! The schedule: which CPU has each turn.
+//! The schedule: which turn follows which.
 #![tactic(auto)]
 
 mod parsing;
@@ -6,5 +6,5 @@ mod parsing;
 mod tests;
 mod words;
 
-pub use esa_model::schedules::{Run, ScheduleRefusal};
 pub use parsing::{Schedule, parse};
+pub use run_model::schedules::{Run, RunKind, ScheduleRefusal};

@@ -1,11 +1,12 @@
 // A whole schedule.
 #![tactic(auto)]
 
-ghost use Rattle.std.specs.Prelude.{◌≡◌, ◌<◌, ◌≤◌, ◌^◌, length, All, MatchResult, IfOk, Ok};
-ghost use Rattle.esa_model.specs.Schedule.{run_of, judged, schedule, turns_of, MayRefuse};
+ghost use Rattle.std.specs.Prelude.{◌≡◌, ◌<◌, ◌≤◌, ◌^◌, length, All, IfOk, IfSome, IsFalse};
+ghost use Rattle.run_model.specs.Schedule.{run_of, judged, schedule, turns_of, Fits, Answers};
+ghost use Rattle.run_model.specs.Schedule.{is_beyond as is_beyond_cpus};
 
 use crate::words::{next_word, word_of};
-use crate::{Run, ScheduleRefusal};
+use crate::{Run, RunKind, ScheduleRefusal};
 use std::alloc::Global;
 use std::marker::Model;
 
@@ -18,8 +19,8 @@ pub struct Schedule {
 
 impl Model for Schedule {
     ghost use Rattle.std.specs.Prelude.{List, ◌≡◌};
-    ghost use Rattle.esa_model.specs.Schedule.{turns_of};
-    ghost use Rattle.esa_model.specs.declared.schedules.Run.{Run as RunOfTurns};
+    ghost use Rattle.run_model.specs.Schedule.{turns_of};
+    ghost use Rattle.run_model.specs.declared.schedules.Run.{Run as RunOfTurns};
 
     ghost Value = { List RunOfTurns };
 
@@ -44,16 +45,30 @@ impl Schedule {
     }
 }
 
+// Whether a machine of so many CPUs has not the CPU of these turns.
+fn is_beyond(what: RunKind, cpus: u8) -> bool
+    requires { Fits 10 what }
+    ensures value { result ≡ is_beyond_cpus cpus what }
+    ensures fits { IsFalse result → Fits cpus what }
+{
+    match what {
+        RunKind::Turns(cpu) => cpu.0 >= cpus,
+        RunKind::Key(cpu) => cpu.0 >= cpus,
+        RunKind::Return(_) => false,
+    }
+}
+
 // What a word gives after so many turns.
 fn judge_run(run: Option<Run>, number: u32, cpus: u8, so_far: u64) -> Result<Run, ScheduleRefusal>
-    requires { so_far ≤ 1000000 }
-    ensures { result ≡ judged cpus number so_far run }
+    requires few { so_far ≤ 1000000 }
+    requires fits { IfSome run (λ r. Fits 10 r.what) }
+    ensures value { result ≡ judged cpus number so_far run }
+    ensures fits { IfOk result (λ r. Fits cpus r.what) }
 {
-    let run = match run {
-        Some(run) => run,
-        None => return Err(ScheduleRefusal::BadWord(number)),
+    let Some(run) = run else {
+        return Err(ScheduleRefusal::BadWord(number));
     };
-    if run.cpu.0 >= cpus {
+    if is_beyond(run.what, cpus) {
         return Err(ScheduleRefusal::BadCpu(number));
     }
     if so_far + u64::from(run.count) > 1_000_000 {
@@ -64,7 +79,8 @@ fn judge_run(run: Option<Run>, number: u32, cpus: u8, so_far: u64) -> Result<Run
 
 fn judge(word: &[u8], number: u32, cpus: u8, so_far: u64) -> Result<Run, ScheduleRefusal>
     requires { so_far ≤ 1000000 }
-    ensures { result ≡ judged cpus number so_far (run_of word.now) }
+    ensures value { result ≡ judged cpus number so_far (run_of word.now) }
+    ensures fits { IfOk result (λ r. Fits cpus r.what) }
 {
     judge_run(word_of(word), number, cpus, so_far)
 }
@@ -72,9 +88,9 @@ fn judge(word: &[u8], number: u32, cpus: u8, so_far: u64) -> Result<Run, Schedul
 /// The runs of a schedule for so many CPUs, or its first refusal.
 pub fn parse(alloc: Global, text: &[u8], cpus: u8) -> Result<Schedule, ScheduleRefusal>
     requires { length text.now < 2 ^ 32 }
-    ensures meaning { MatchResult result (λ s. schedule cpus text.now ≡ Ok s) (λ e. MayRefuse (schedule cpus text.now) e) }
+    ensures meaning { Answers (schedule cpus text.now) result }
     ensures few { IfOk result (λ s. turns_of s ≤ 1000000) }
-    ensures inside { IfOk result (λ s. All (λ r. r.cpu.0 < cpus) s) }
+    ensures fits { IfOk result (λ s. All (λ r. Fits cpus r.what) s) }
 {
     let mut runs = Vec::new(alloc);
     let mut turns: u64 = 0;

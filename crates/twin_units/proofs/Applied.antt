@@ -2,17 +2,15 @@
 use Rattle.std.proofs.Common.{◌≡◌, ℕ, List, false, sym, ap, subst, ◌∙◌}
 use Rattle.esa_model.specs.declared.machine.Registers.{Registers}
 use Rattle.esa_model.specs.Apply.{apply}
-use Rattle.esa_model.specs.Bus.{signals_of}
-use Rattle.esa_model.specs.Event.{due}
 use Rattle.esa_model.specs.Line.{Side}
-use Rattle.esa_model.specs.Machine.{Machine, after, done, due_at, idle, is_idle, next, side_of}
+use Rattle.esa_model.specs.Machine.{Machine, after, done, done_at, due_at, idle, is_idle, next, side_of}
 use Rattle.esa_model.specs.Packet.{Fields, fields, packet, packet_of}
 use Rattle.esa_model.specs.Unit.{Done}
 use Rattle.packet_law.specs.Fine.{IsFine}
 use Rattle.packet_law.specs.Sound.{IsSound}
-use Rattle.twin_units.specs.Units.{IsAt}
+use Rattle.twin_units.specs.Units.{due_beside, IsAt}
 
-pub busy : (m : Machine) (i : ℕ) (r : Registers) (s : List ℕ) (side : Side) → IsAt m i r s side → idle m i ≡ false → is_idle (due r (signals_of side.bus i)) ≡ false
+pub busy : (m : Machine) (i : ℕ) (r : Registers) (s : List ℕ) (side : Side) → IsAt m i r s side → idle m i ≡ false → is_idle (due_beside r i side) ≡ false
 unfolding idle due_at
 busy m i r s side at h = rw (sym at.registers, sym at.side) h
 
@@ -24,7 +22,7 @@ pub stepped : (m : Machine) (i : ℕ) (r : Registers) (s : List ℕ) (side : Sid
     → p ≡ packet_of f → f ≡ fields r d s → IsFine f → d ≡ done r i s side → IsSound m i d
     → ((n : Machine) (j : ℕ) (e : Done) → IsSound n j e → IsFine (fields (n.registers j) e n.storage) → apply n j (packet (n.registers j) e n.storage) ≡ after n j e)
     → apply m i p ≡ next m i
-unfolding next
+unfolding next done_at
 stepped m i r s side d f p at told known fine due_done sound law =
     let here : f ≡ fields (m.registers i) d m.storage = rw (at.registers, at.storage) known in
     let fine_here : IsFine (fields (m.registers i) d m.storage) = subst IsFine here fine in

@@ -1,20 +1,21 @@
 -- Units are sound: completed rows by the law of rows, suppressed ones by themselves.
-use Rattle.std.proofs.Common.{◌≡◌, ℕ, zero, suc, ◌<◌, ◌≤◌, List, [], ◌∷◌, length, refl, sym, ap, arith, subst, inl, inr}
-use Rattle.std.specs.Prelude.{◌⊎◌, slice_get, slice_set}
+use Rattle.std.proofs.Common.{◌≡◌, ℕ, zero, suc, ◌<◌, ◌≤◌, List, [], ◌∷◌, length, refl, sym, ap, arith, subst, inl}
+use Rattle.std.specs.Prelude.{Option, Some, None, true, slice_get, slice_set}
 use Rattle.std.specs.Option.{unwrap_or}
 use Rattle.esa_model.specs.declared.machine.Registers.{Registers}
 use Rattle.esa_model.specs.declared.machine.Signals.{Signals}
+use Rattle.esa_model.specs.declared.events.SentOrder.{SentOrder}
 use Rattle.esa_model.specs.declared.instructions.Row.{Row}
 use Rattle.esa_model.specs.declared.instructions.Decoded.{Decoded}
 use Rattle.esa_model.specs.Access.{Operands, refused, referenced}
 use Rattle.esa_model.specs.Bus.{signals_of, taken}
 use Rattle.esa_model.specs.Table.{row_numbered, fields}
-use Rattle.esa_model.specs.Line.{Effect, Line, Side, always}
+use Rattle.esa_model.specs.Line.{Effect, FullLine, Side}
 use Rattle.esa_model.specs.Unit.{Done, carried, exception, performed, suppressed}
 use Rattle.esa_model.specs.Machine.{Machine}
 use Rattle.operand_access.specs.Seen.{memory}
-use Rattle.row_frame.specs.Made.{Fits, Covers}
-use Rattle.packet_law.specs.Sound.{IsSound, IsTaken, ReadsConsole}
+use Rattle.row_frame.specs.Made.{Fits, Covers, ReadsConsole, SetsKey}
+use Rattle.packet_law.specs.Sound.{IsSound, IsSent, IsTaken}
 use Rattle.packet_law.specs.Rows.{Tells, inputs_at}
 use Rattle.control_rows.specs.Orders.{Sends}
 use Rattle.twin_units.specs.Units.{IsAt}
@@ -24,14 +25,14 @@ use Rattle.twin_units.specs.Units.{IsAt}
 pub suppressed_sound : (m : Machine) (i : ℕ) (r : Registers) (len code : ℕ) (blocks : List ℕ) → length blocks ≤ 8 → IsSound m i (suppressed r len code blocks)
 unfolding suppressed
 suppressed_sound m i r len code blocks h = record {
-  kind = omega arith;
   stored = omega arith;
   inside = λ k lt. absurd (omega (arith, lt));
   written = omega arith;
   one = inl refl;
   read = tt;
   blocks = h;
-  order = inl refl;
+  key = tt;
+  order = tt;
 }
 
 -- ---- an order is sent over the bus as it was
@@ -41,31 +42,31 @@ put_back [] i q = refl
 put_back (s ∷ ss) zero q = refl
 put_back (s ∷ ss) (suc i) q = ap (λ (xs : List Signals). s ∷ xs) (put_back ss i q)
 
-not_taken : (sender i : ℕ) (bus : List Signals) → taken 0 sender i bus ≡ bus
+not_taken : (i : ℕ) (bus : List Signals) → taken None i bus ≡ bus
 unfolding taken signals_of
-not_taken sender i bus = put_back bus i _
+not_taken i bus = put_back bus i _
 
-order_taken : (bus : List Signals) (i order to : ℕ) → i < length bus → Sends bus order to → (order ≡ 0) ⊎ IsTaken order i to (taken 0 0 i bus)
-order_taken bus i order to there (inl e) = inl e
-order_taken bus i order to there (inr e) =
-    inr (subst (λ (b : List Signals). IsTaken order i to b) (sym (not_taken 0 i bus)) (record { sender = there; accepted = e }))
+order_taken : (bus : List Signals) (i : ℕ) (sent : Option SentOrder) → i < length bus → Sends bus sent → IsSent sent i (taken None i bus)
+order_taken bus i None there h = tt
+order_taken bus i (Some o) there h =
+    subst (λ (b : List Signals). IsTaken o.order i o.to b) (sym (not_taken i bus)) (record { sender = there; accepted = h })
 
 -- ---- completed
 
 -- the law of rows
 abbrev pub SoundRows : Type 0
-SoundRows = (m : Machine) (i own len : ℕ) (d : Decoded) (row : Row) (l : Line) (blocks : List ℕ) → length blocks ≤ 8
+SoundRows = (m : Machine) (i own len : ℕ) (d : Decoded) (row : Row) (l : FullLine) (blocks : List ℕ) → length blocks ≤ 8
     → (exception row l (inputs_at m i d own len) ≡ 0 → (l.effect (inputs_at m i d own len)).fault ≡ 0
     → Tells m i (l.operands (inputs_at m i d own len)) (l.effect (inputs_at m i d own len)) blocks)
     → IsSound m i (performed row l (inputs_at m i d own len) blocks)
 
 -- a line of these operands and this effect
-abbrev settled : Operands → Effect → Line
-settled os e = record { in_order = always; operands = λ i. os; effect = λ i. e }
+abbrev settled : Operands → Effect → FullLine
+settled os e = record { in_order = λ s. true; operands = λ s. os; effect = λ s. e }
 
 -- a row that is not privileged
 abbrev any_row : Row
-any_row = row_numbered 129
+any_row = row_numbered 134
 
 abbrev any_fields : Decoded
 any_fields = fields 0 0 0 0 0 0 0 0 0
@@ -96,14 +97,14 @@ pub record IsTyped (r : Registers) (os : Operands) (e : Effect) (blocks : List �
 pub carried_sound : SoundRows → (m : Machine) (i : ℕ) (r : Registers) (storage : List ℕ) (side : Side) (len : ℕ) (os : Operands) (e : Effect) (blocks : List ℕ)
     → IsAt m i r storage side → IsTyped r os e blocks
     → refused r (memory storage side.keys) os ≡ 0
-    → ReadsConsole e.console_in (length side.console) e.console_out → Sends side.bus e.order e.order_to
+    → ReadsConsole e.console_in (length side.console) e.console_out → Sends side.bus e.sent → SetsKey e.set_key
     → IsSound m i (carried r len os e blocks)
-carried_sound law m i r storage side len os e blocks at t h reads sends =
+carried_sound law m i r storage side len os e blocks at t h reads sends sets =
     let by = sym at.registers in
     let of = sym at.side in
     let reads_there : ReadsConsole e.console_in (length m.console) e.console_out =
     subst (λ (s : Side). ReadsConsole e.console_in (length s.console) e.console_out) of reads in
-    let sends_there : Sends m.bus e.order e.order_to = subst (λ (s : Side). Sends s.bus e.order e.order_to) of sends in
+    let sends_there : Sends m.bus e.sent = subst (λ (s : Side). Sends s.bus e.sent) of sends in
     let refused_there : refused (m.registers i) (memory m.storage m.keys) os ≡ 0 =
     subst (λ (q : Registers). refused q (memory m.storage m.keys) os ≡ 0) by
     (subst (λ (s : List ℕ). refused r (memory s m.keys) os ≡ 0) (sym at.storage)
@@ -114,7 +115,8 @@ carried_sound law m i r storage side len os e blocks at t h reads sends =
       stored = t.stored;
       written = t.written;
       read = reads_there;
-      order = order_taken m.bus i e.order e.order_to at.there sends_there;
+      key = sets;
+      order = order_taken m.bus i e.sent at.there sends_there;
       few = subst (λ (q : Registers). length (referenced q os blocks) ≤ 8) by t.few;
     } in
     subst (λ (q : Registers). IsSound m i (carried q len os e blocks)) at.registers

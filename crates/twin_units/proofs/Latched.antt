@@ -1,6 +1,9 @@
 -- What the latch of the event that is due tells.
 use Rattle.std.proofs.Common.{◌≡◌, ℕ, ◌+◌, List, [], ◌∷◌, ◌++◌, Bool, true, false, refl, sym, ap, subst, ◌∙◌, arith, Option, Some, None}
 use Rattle.std.specs.Prelude.{zero, suc, ◌<◌, ◌==◌, if◌then◌else◌, replicate, slice_index, drop}
+use Rattle.esa_model.specs.declared.codes.TheConstants.{SPECIFICATION}
+use Rattle.esa_model.specs.declared.events.Interruption.TheVariants.{Program, Restart as Restarting}
+use Rattle.esa_model.specs.declared.events.Taken.TheVariants as taking
 use Rattle.esa_model.specs.declared.machine.Registers.{Registers}
 use Rattle.esa_model.specs.declared.machine.Signals.{Signals}
 use Rattle.esa_model.specs.declared.machine.CpuState.{CpuState}
@@ -19,7 +22,8 @@ use Rattle.esa_model.specs.Table.{length_of}
 use Rattle.esa_model.specs.Unit.{interrupted, suppressed, start_code, fetch_code, fetch_len, fetched, unit, Done}
 use Rattle.operand_access.specs.Fetch.{front, fetched_count}
 use Rattle.operand_access.specs.Seen.{memory}
-use Rattle.twin_units.specs.Events.{requested, taking}
+use Rattle.twin_units.specs.Events.{interrupted_by, requested}
+use Rattle.twin_units.specs.Units.{due_beside, enabled_beside}
 
 -- ---- a fetch that is refused
 
@@ -86,14 +90,14 @@ stopped : (restart : Bool) (q : Request) → (if restart then Restart else Idle)
 stopped true q h = absurd cc
 stopped false q h = absurd cc
 
-in_state : (state : CpuState) (r : Registers) (s : Signals) (q : Request) → due_in state r s ≡ External q → enabled r.psw (slice_index r.control 0) s ≡ Some q
-in_state CheckStop r s q h = absurd cc
-in_state Stopped r s q h = absurd (stopped s.restart q h)
-in_state Operating r s q h = operating (is_early r.psw) (enabled r.psw (slice_index r.control 0) s) s.restart (is_waiting r.psw) q h
+in_state : (state : CpuState) (r : Registers) (clock : ℕ) (s : Signals) (q : Request) → due_in state r clock s ≡ External q → enabled r clock s ≡ Some q
+in_state CheckStop r clock s q h = absurd cc
+in_state Stopped r clock s q h = absurd (stopped s.restart q h)
+in_state Operating r clock s q h = operating (is_early r.psw) (enabled r clock s) s.restart (is_waiting r.psw) q h
 
-external_due : (r : Registers) (s : Signals) (q : Request) → due r s ≡ External q → enabled r.psw (slice_index r.control 0) s ≡ Some q
+external_due : (r : Registers) (clock : ℕ) (s : Signals) (q : Request) → due r clock s ≡ External q → enabled r clock s ≡ Some q
 unfolding due
-external_due r s q h = in_state s.state r s q h
+external_due r clock s q h = in_state s.state r clock s q h
 
 -- ---- what each number tells
 
@@ -131,45 +135,45 @@ unit_of_due r i s side UnitOfOperation b h =
       done = refl;
     }
 
-pub unit_told : (r : Registers) (i : ℕ) (s : List ℕ) (side : Side) → is_idle (due r (signals_of side.bus i)) ≡ false
+pub unit_told : (r : Registers) (i : ℕ) (s : List ℕ) (side : Side) → is_idle (due_beside r i side) ≡ false
     → slice_index (latch r i s side) 0 ≡ 0 → IsUnit r i s side (latch r i s side) (done r i s side)
 unfolding latch done
-unit_told r i s side b h = unit_of_due r i s side (due r (signals_of side.bus i)) b h
+unit_told r i s side b h = unit_of_due r i s side (due_beside r i side) b h
 
-external_of_due : (r : Registers) (i : ℕ) (s : List ℕ) (side : Side) (q : Due) → due r (signals_of side.bus i) ≡ q
-    → slice_index (latch_of r (seen s side) q) 0 ≡ 1 → done_of r i s side q ≡ requested r (enabled r.psw (slice_index r.control 0) (signals_of side.bus i))
+external_of_due : (r : Registers) (i : ℕ) (s : List ℕ) (side : Side) (q : Due) → due_beside r i side ≡ q
+    → slice_index (latch_of r (seen s side) q) 0 ≡ 1 → done_of r i s side q ≡ requested r (enabled_beside r i side)
 external_of_due r i s side Idle e h = absurd (omega (arith, h))
 external_of_due r i s side Early e h = absurd (omega (arith, h))
-external_of_due r i s side (External q) e h = rw (external_due r (signals_of side.bus i) q e) refl
+external_of_due r i s side (External q) e h = rw (external_due r side.clock (signals_of side.bus i) q e) refl
 external_of_due r i s side Restart e h = absurd (omega (arith, h))
 external_of_due r i s side UnitOfOperation e h = absurd (other_told 1 _ _ _ h (omega arith) (omega arith))
 
 pub external_told : (r : Registers) (i : ℕ) (s : List ℕ) (side : Side) → slice_index (latch r i s side) 0 ≡ 1
-    → done r i s side ≡ requested r (enabled r.psw (slice_index r.control 0) (signals_of side.bus i))
+    → done r i s side ≡ requested r (enabled_beside r i side)
 unfolding latch done
-external_told r i s side h = external_of_due r i s side (due r (signals_of side.bus i)) refl h
+external_told r i s side h = external_of_due r i s side (due_beside r i side) refl h
 
-restart_of_due : (r : Registers) (i : ℕ) (s : List ℕ) (side : Side) (q : Due) → slice_index (latch_of r (seen s side) q) 0 ≡ 2 → done_of r i s side q ≡ taking r 4 0 5 0
+restart_of_due : (r : Registers) (i : ℕ) (s : List ℕ) (side : Side) (q : Due) → slice_index (latch_of r (seen s side) q) 0 ≡ 2 → done_of r i s side q ≡ interrupted_by r Restarting 0 taking.Restart
 restart_of_due r i s side Idle h = absurd (omega (arith, h))
 restart_of_due r i s side Early h = absurd (omega (arith, h))
 restart_of_due r i s side (External q) h = absurd (omega (arith, h))
 restart_of_due r i s side Restart h = refl
 restart_of_due r i s side UnitOfOperation h = absurd (other_told 2 _ _ _ h (omega arith) (omega arith))
 
-pub restart_told : (r : Registers) (i : ℕ) (s : List ℕ) (side : Side) → slice_index (latch r i s side) 0 ≡ 2 → done r i s side ≡ taking r 4 0 5 0
+pub restart_told : (r : Registers) (i : ℕ) (s : List ℕ) (side : Side) → slice_index (latch r i s side) 0 ≡ 2 → done r i s side ≡ interrupted_by r Restarting 0 taking.Restart
 unfolding latch done
-restart_told r i s side h = restart_of_due r i s side (due r (signals_of side.bus i)) h
+restart_told r i s side h = restart_of_due r i s side (due_beside r i side) h
 
-early_of_due : (r : Registers) (i : ℕ) (s : List ℕ) (side : Side) (q : Due) → slice_index (latch_of r (seen s side) q) 0 ≡ 3 → done_of r i s side q ≡ interrupted r 1 6 []
+early_of_due : (r : Registers) (i : ℕ) (s : List ℕ) (side : Side) (q : Due) → slice_index (latch_of r (seen s side) q) 0 ≡ 3 → done_of r i s side q ≡ interrupted r (Some Program) SPECIFICATION []
 early_of_due r i s side Idle h = absurd (omega (arith, h))
 early_of_due r i s side Early h = refl
 early_of_due r i s side (External q) h = absurd (omega (arith, h))
 early_of_due r i s side Restart h = absurd (omega (arith, h))
 early_of_due r i s side UnitOfOperation h = absurd (other_told 3 _ _ _ h (omega arith) (omega arith))
 
-pub early_told : (r : Registers) (i : ℕ) (s : List ℕ) (side : Side) → slice_index (latch r i s side) 0 ≡ 3 → done r i s side ≡ interrupted r 1 6 []
+pub early_told : (r : Registers) (i : ℕ) (s : List ℕ) (side : Side) → slice_index (latch r i s side) 0 ≡ 3 → done r i s side ≡ interrupted r (Some Program) SPECIFICATION []
 unfolding latch done
-early_told r i s side h = early_of_due r i s side (due r (signals_of side.bus i)) h
+early_told r i s side h = early_of_due r i s side (due_beside r i side) h
 
 -- a unit whose fetch is refused: the length is by the first byte, the code is told
 abbrev pub refused_by : Registers → List ℕ → Done
@@ -196,4 +200,4 @@ refused_of_due r i s side UnitOfOperation h =
 pub refused_told : (r : Registers) (i : ℕ) (s : List ℕ) (side : Side) → 3 < slice_index (latch r i s side) 0
     → done r i s side ≡ suppressed r (length_of (slice_index (latch r i s side) 2)) (slice_index (latch r i s side) 1) []
 unfolding latch done
-refused_told r i s side h = refused_of_due r i s side (due r (signals_of side.bus i)) h
+refused_told r i s side h = refused_of_due r i s side (due_beside r i side) h

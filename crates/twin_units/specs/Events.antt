@@ -1,15 +1,19 @@
 -- Events that are no unit of operation.
-use Rattle.std.specs.Prelude.{ℕ, ◌+◌, ◌*◌, ◌^◌, [], Option, Some, None}
+use Rattle.std.specs.Prelude.{ℕ, [], Option, Some, None}
+use Rattle.esa_model.specs.declared.events.Interruption.{Interruption}
+use Rattle.esa_model.specs.declared.events.Interruption.TheVariants.{External}
+use Rattle.esa_model.specs.declared.events.Taken.{Taken}
+use Rattle.esa_model.specs.declared.events.Taken.TheVariants as taking
 use Rattle.esa_model.specs.declared.machine.Registers.{Registers}
 use Rattle.esa_model.specs.declared.machine.Request.{Request}
-use Rattle.esa_model.specs.Event.{request_code, request_number, sender_of}
+use Rattle.esa_model.specs.Machine.{request_identification}
 use Rattle.esa_model.specs.Unit.{Done, interrupted}
 
--- an interruption that takes a request
-abbrev pub taking : Registers → ℕ → ℕ → ℕ → ℕ → Done
-taking r kind identification request sender = record (interrupted r kind identification []) { request = request; sender = sender }
+-- an interruption that takes what is pending
+abbrev pub interrupted_by : Registers → Interruption → ℕ → Taken → Done
+interrupted_by r kind identification t = record (interrupted r (Some kind) identification []) { taken = Some t }
 
 -- the external interruption of the request that is enabled; nothing where none is
 abbrev pub requested : Registers → Option Request → Done
-requested r None = interrupted r 0 0 []
-requested r (Some q) = taking r 3 (sender_of q * 2 ^ 16 + request_code q) (request_number q) (sender_of q)
+requested r None = interrupted r None 0 []
+requested r (Some q) = interrupted_by r External (request_identification q) (taking.Request q)

@@ -1,3 +1,4 @@
-pub mod Classes
 pub mod Units
 pub mod Events
+pub mod Results
+pub mod UnitsSeen

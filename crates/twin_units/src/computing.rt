@@ -1,13 +1,10 @@
 // What the event of a fetch latch does, and its packet.
 ghost use Rattle.std.specs.Prelude.{◌≡◌, false, drop};
-ghost use Rattle.esa_model.specs.Apply.{apply};
-ghost use Rattle.esa_model.specs.Bus.{signals_of};
-ghost use Rattle.esa_model.specs.Event.{due};
 ghost use Rattle.esa_model.specs.Latch.{latch as latch_bytes};
-ghost use Rattle.esa_model.specs.Machine.{Machine, done, idle, is_idle, next};
-ghost use Rattle.esa_model.specs.Packet.{packet};
+ghost use Rattle.esa_model.specs.Machine.{Machine, done, is_idle};
 ghost use Rattle.packet_law.specs.Sound.{IsSound};
-ghost use Rattle.twin_units.specs.Units.{IsAt};
+ghost use Rattle.twin_units.specs.Results.{IsPacket, IsStep};
+ghost use Rattle.twin_units.specs.Units.{due_beside, IsAt};
 
 use crate::done::Done;
 use crate::interruptions::{early, external, refused_fetch, restart};
@@ -36,14 +33,14 @@ fn event_told<V: View>(
     view: &mut V,
     side: &Side,
 ) -> Done
-    ensures done { latch.now ≡ latch_bytes r.now cpu.0 (V.bytes view.old) side.now → is_idle (due r.now (signals_of side.now.bus cpu.0)) ≡ false
+    ensures done { latch.now ≡ latch_bytes r.now cpu.0 (V.bytes view.old) side.now → is_idle (due_beside r.now cpu.0 side.now) ≡ false
         → result ≡ done r.now cpu.0 (V.bytes view.old) side.now }
     ensures sound { (m : Machine) → IsAt m cpu.0 r.now (V.bytes view.old) side.now → IsSound m cpu.0 result }
     ensures same { V.bytes view.new ≡ V.bytes view.old }
 {
     match latch[0] {
         0 => unit_from(&instruction_in(latch), r, cpu, view, side),
-        1 => external(r, enabled(r.psw, r.control[0], &side.bus, cpu)),
+        1 => external(r, enabled(r, side.clock, &side.bus, cpu)),
         2 => restart(r),
         3 => early(r),
         _ => refused_fetch(r, latch[2], latch[1]),
@@ -60,10 +57,8 @@ pub fn compute<V: View>(
     view: &mut V,
     side: &Side,
 ) -> Packet
-    ensures packet { latch.now.bytes ≡ latch_bytes r.now cpu.0 (V.bytes view.old) side.now → is_idle (due r.now (signals_of side.now.bus cpu.0)) ≡ false
-        → result ≡ packet r.now (done r.now cpu.0 (V.bytes view.old) side.now) (V.bytes view.old) }
-    ensures step { (m : Machine) → IsAt m cpu.0 r.now (V.bytes view.old) side.now → latch.now.bytes ≡ latch_bytes r.now cpu.0 (V.bytes view.old) side.now
-        → idle m cpu.0 ≡ false → apply m cpu.0 result ≡ next m cpu.0 }
+    ensures packet { IsPacket latch.now.bytes r.now cpu.0 (V.bytes view.old) side.now result }
+    ensures step { IsStep latch.now.bytes r.now cpu.0 (V.bytes view.old) side.now result }
     ensures same { V.bytes view.new ≡ V.bytes view.old }
 {
     applied_is_next();

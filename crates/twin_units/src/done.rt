@@ -1,10 +1,11 @@
 // What an event does.
-ghost use Rattle.std.specs.Prelude.{◌≡◌, ◌+◌, ◌*◌, ◌^◌, ◌≤◌, ◌==◌, if◌then◌else◌, length};
+ghost use Rattle.std.specs.Prelude.{◌≡◌, ◌≤◌, ◌^◌, Some, length};
 ghost use Rattle.esa_model.specs.Access.{referenced};
-ghost use Rattle.esa_model.specs.Unit.{carried, interrupted, suppressed};
+ghost use Rattle.esa_model.specs.Unit.{carried, identified, interrupted, suppressed};
 ghost use Rattle.operand_access.specs.Seen.{AreInside};
 
 use arrayvec::ArrayVec;
+use esa_model::events::{Interruption, KeySet, SentOrder, Taken};
 use esa_model::machine::Registers;
 use operand_access::{Operands, note_operands};
 use row_frame::{Effect, after};
@@ -18,22 +19,16 @@ pub(crate) struct Done {
     pub to: u32,
     pub stored: ArrayVec<u8, 256>,
     pub console_out: ArrayVec<u8, 256>,
+    /// How many bytes of the console input are read, where it is read.
     pub console_in: Option<u16>,
-    /// The blocks of 4,096 bytes that are referenced, each once: those of the instruction, of the target of EX,
-    /// of the first operand, of the second operand.
+    /// The blocks of 4,096 bytes that are referenced, each once: those of the instruction, of the target
+    /// of EX, of the first operand, of the second operand.
     pub blocks: ArrayVec<u16, 8>,
-    /// The block whose key is set, or X'FFFF'.
-    pub block: u16,
-    pub key: u8,
-    /// The interruption: 0 none, 1 program, 2 SVC, 3 external, 4 restart.
-    pub kind: u8,
+    pub set_key: Option<KeySet>,
+    pub interruption: Option<Interruption>,
     pub identification: u32,
-    /// The request taken: 0 none, 1 key, 2 malfunction alert, 3 emergency signal, 4 external call, 5 restart.
-    pub request: u8,
-    pub sender: u8,
-    /// An order to another CPU that was accepted, or 0, and that CPU.
-    pub order: u8,
-    pub order_to: u8,
+    pub taken: Option<Taken>,
+    pub sent: Option<SentOrder>,
 }
 
 impl Model for Done {
@@ -41,17 +36,30 @@ impl Model for Done {
 
     ghost Value = { Deed };
 
-    ghost view = { λ d. record { registers = d.registers; to = d.to; stored = d.stored.items; console_out = d.console_out.items; console_in = d.console_in; blocks = d.blocks.items; block = d.block; key = d.key; kind = d.kind; identification = d.identification; request = d.request; sender = d.sender; order = d.order; order_to = d.order_to } };
+    ghost view = { λ d. record {
+      registers = d.registers;
+      to = d.to;
+      stored = d.stored.items;
+      console_out = d.console_out.items;
+      console_in = d.console_in;
+      blocks = d.blocks.items;
+      set_key = d.set_key;
+      interruption = d.interruption;
+      identification = d.identification;
+      taken = d.taken;
+      sent = d.sent;
+    } };
 }
 
-/// An interruption and nothing else.
+/// An interruption and nothing else, with the blocks that were referenced before; nothing at all where
+/// there is no interruption.
 pub(crate) fn interrupt(
     registers: Registers,
-    kind: u8,
+    interruption: Option<Interruption>,
     identification: u32,
     blocks: ArrayVec<u16, 8>,
 ) -> Done
-    ensures { result ≡ interrupted registers kind identification blocks.items }
+    ensures { result ≡ interrupted registers interruption identification blocks.items }
 {
     Done {
         registers,
@@ -60,14 +68,11 @@ pub(crate) fn interrupt(
         console_out: ArrayVec::new(),
         console_in: None,
         blocks,
-        block: 0xFFFF,
-        key: 0,
-        kind,
+        set_key: None,
+        interruption,
         identification,
-        request: 0,
-        sender: 0,
-        order: 0,
-        order_to: 0xFF,
+        taken: None,
+        sent: None,
     }
 }
 
@@ -76,22 +81,22 @@ pub(crate) fn interrupt(
 pub(crate) fn suppress(r: &Registers, len: u8, code: u8, blocks: ArrayVec<u16, 8>) -> Done
     ensures done { result ≡ suppressed r.now len code blocks.items }
 {
+    let identification = len as u32 * 0x1_0000 + code as u32;
     interrupt(
         after(r, len),
-        1,
-        len as u32 * 0x1_0000 + code as u32,
+        Some(Interruption::Program),
+        identification,
         blocks,
     )
 }
 
-/// The identification of what an effect ends with.
-fn identified(kind: u8, len: u8, code: u8) -> u32
-    ensures { result ≡ (if kind == 0 then 0 else len * 2 ^ 16 + code) }
+/// The identification of the interruption that an effect ends with, 0 where there is none.
+fn identify(interruption: Option<Interruption>, len: u8, code: u8) -> u32
+    ensures { result ≡ identified interruption len code }
 {
-    if kind == 0 {
-        0
-    } else {
-        len as u32 * 0x1_0000 + code as u32
+    match interruption {
+        Some(_) => len as u32 * 0x1_0000 + code as u32,
+        None => 0,
     }
 }
 
@@ -117,13 +122,10 @@ pub(crate) fn carry(
         console_out: e.console_out,
         console_in: e.console_in,
         blocks,
-        block: e.block,
-        key: e.key,
-        kind: e.kind,
-        identification: identified(e.kind, len, e.code),
-        request: 0,
-        sender: 0,
-        order: e.order,
-        order_to: e.order_to,
+        set_key: e.set_key,
+        interruption: e.interruption,
+        identification: identify(e.interruption, len, e.code),
+        taken: None,
+        sent: e.sent,
     }
 }

@@ -1,5 +1,5 @@
 // The priority of exceptions, for a row.
-ghost use Rattle.std.specs.Prelude.{◌≡◌, ℕ, ◌≤◌, ◌^◌, List, length};
+ghost use Rattle.std.specs.Prelude.{◌≡◌, ℕ, ◌≤◌, ◌^◌, List, Some, length};
 ghost use Rattle.control_rows.specs.Orders.{Sends};
 ghost use Rattle.esa_model.specs.Access.{refused as refusal};
 ghost use Rattle.esa_model.specs.Line.{Side as Beside};
@@ -7,16 +7,17 @@ ghost use Rattle.esa_model.specs.Machine.{Machine};
 ghost use Rattle.esa_model.specs.Rows.All.{line};
 ghost use Rattle.esa_model.specs.Unit.{carried, performed, suppressed};
 ghost use Rattle.operand_access.specs.Seen.{memory, AreEven, AreInside};
-ghost use Rattle.packet_law.specs.Sound.{IsSound, ReadsConsole};
-ghost use Rattle.row_frame.specs.Made.{inputs, Covers, Fits, IsInRange};
-ghost use Rattle.twin_units.specs.Units.{IsAt};
+ghost use Rattle.packet_law.specs.Sound.{IsSound};
+ghost use Rattle.row_frame.specs.Made.{situation, Covers, Fits, IsInRange, ReadsConsole, SetsKey};
+ghost use Rattle.twin_units.specs.Units.{IsAt, IsKnown};
 
-use crate::classes::class_of;
 use crate::done::{Done, carry, suppress};
 use crate::rows::{effect_of, in_order, operands};
 use abs_storage::View;
 use arrayvec::ArrayVec;
+use esa_model::codes::{PRIVILEGED, SPECIFICATION};
 use esa_model::instructions::Row;
+use esa_model::kinds::Kind;
 use esa_model::machine::{CpuNo, Registers};
 use operand_access::{Operands, refused_of};
 use packet_law::sound_rows;
@@ -65,8 +66,8 @@ fn complete(r: &Registers, len: u8, os: &Operands, e: Effect, blocks: ArrayVec<u
     ensures done { result ≡ carried r.now len os.now e blocks.items }
     ensures sound { (m : Machine) (i : ℕ) (storage : List ℕ) (side : Beside) → IsAt m i r.now storage side
         → refusal r.now (memory storage side.keys) os.now ≡ 0
-        → ReadsConsole e.console_in (length side.console) e.console_out → Sends side.bus e.order e.order_to
-        → IsSound m i result }
+        → ReadsConsole e.console_in (length side.console) e.console_out → Sends side.bus e.sent
+        → SetsKey e.set_key → IsSound m i result }
 {
     sound_rows();
     short_lists(&e);
@@ -88,6 +89,7 @@ fn refusal_of<V: View>(r: &Registers, keys: &Keys, view: &V, os: &Operands) -> u
 #[tactic(auto, unfolding(esa_model::specs::Unit::performed, esa_model::specs::Unit::exception))]
 pub(crate) fn perform<V: View>(
     row: &Row,
+    kind: Kind,
     r: &Registers,
     cpu: CpuNo,
     view: &mut V,
@@ -97,24 +99,25 @@ pub(crate) fn perform<V: View>(
 ) -> Done
     requires fields { IsInRange i.now.decoded }
     requires room { length blocks.items ≤ 4 }
-    ensures done { result ≡ performed row.now (line row.now.opcode) (inputs r.now cpu.0 (V.bytes view.old) side.now i.now) blocks.items }
+    requires known { IsKnown kind row.now.opcode }
+    ensures done { result ≡ performed row.now (line kind row.now.opcode)
+        (situation r.now cpu.0 (V.bytes view.old) side.now i.now) blocks.items }
     ensures sound { (m : Machine) → IsAt m cpu.0 r.now (V.bytes view.old) side.now → IsSound m cpu.0 result }
     ensures same { V.bytes view.new ≡ V.bytes view.old }
 {
     let len = i.len;
-    let class = class_of(row.opcode);
-    if row.privileged && r.psw.w0 / 0x1_0000 % 2 == 1 {
-        return stop(r, len, 2, blocks);
+    if row.privileged && r.psw.is_problem() {
+        return stop(r, len, PRIVILEGED, blocks);
     }
-    if !in_order(class, row.opcode, r, cpu, view, side, i) {
-        return stop(r, len, 6, blocks);
+    if !in_order(kind, row.opcode, r, cpu, view, side, i) {
+        return stop(r, len, SPECIFICATION, blocks);
     }
-    let os = operands(class, row.opcode, r, cpu, view, side, i);
+    let os = operands(kind, row.opcode, r, cpu, view, side, i);
     let code = refusal_of(r, &side.keys, view, &os);
     if code != 0 {
         return stop(r, len, code, blocks);
     }
-    let e = effect_of(class, row.opcode, r, cpu, view, side, i);
+    let e = effect_of(kind, row.opcode, r, cpu, view, side, i);
     if e.fault != 0 {
         return stop(r, len, e.fault, blocks);
     }

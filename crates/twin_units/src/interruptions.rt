@@ -1,14 +1,21 @@
 // Events that are no unit of operation, and the unit whose fetch is refused.
-ghost use Rattle.std.specs.Prelude.{◌≡◌, ◌+◌, ◌*◌, ◌^◌, ◌<◌, []};
-ghost use Rattle.esa_model.specs.Event.{request_code, request_number, sender_of};
+ghost use Rattle.std.specs.Prelude.{◌≡◌, ◌<◌, ◌^◌, [], Some};
+ghost use Rattle.esa_model.specs.declared.codes.TheConstants.{SPECIFICATION as SPECIFICATION_CODE};
+ghost use Rattle.esa_model.specs.declared.events.Interruption.TheVariants.{Program as ProgramOf, Restart as RestartOf};
+ghost use Rattle.esa_model.specs.declared.events.Taken.TheVariants.{Restart as TakenRestart};
+ghost use Rattle.esa_model.specs.Event.{request_code, sender_of};
+ghost use Rattle.esa_model.specs.Machine.{request_identification};
 ghost use Rattle.esa_model.specs.Table.{length_of};
 ghost use Rattle.esa_model.specs.Unit.{interrupted, suppressed};
-ghost use Rattle.twin_units.specs.Events.{requested, taking};
+ghost use Rattle.twin_units.specs.Events.{interrupted_by, requested};
 
 use crate::done::{Done, interrupt, suppress};
 use crate::operation::length_by;
 use arrayvec::ArrayVec;
+use esa_model::codes::SPECIFICATION;
+use esa_model::events::{Interruption, Taken};
 use esa_model::machine::{Registers, Request};
+use result_packet::sender_number;
 
 /// The code that the external interruption of a request stores.
 ///
@@ -22,45 +29,24 @@ fn code_of(request: Request) -> u32
         Request::Malfunction(_) => 0x1200,
         Request::Emergency(_) => 0x1201,
         Request::ExternalCall(_) => 0x1202,
-    }
-}
-
-/// The number of a request in packets.
-fn number_of(request: Request) -> u8
-    ensures { result ≡ request_number request }
-{
-    match request {
-        Request::Key => 1,
-        Request::Malfunction(_) => 2,
-        Request::Emergency(_) => 3,
-        Request::ExternalCall(_) => 4,
-    }
-}
-
-/// The CPU that sent a request, 0 for the interrupt key.
-fn sender_number(request: Request) -> u8
-    ensures { result ≡ sender_of request }
-{
-    match request {
-        Request::Key => 0,
-        Request::Malfunction(cpu) | Request::Emergency(cpu) | Request::ExternalCall(cpu) => cpu.0,
+        Request::Comparator => 0x1004,
+        Request::Timer => 0x1005,
     }
 }
 
 /// The identification that the external interruption of a request stores: its sender and its code.
-fn identification_of(request: Request) -> u32
-    ensures { result ≡ sender_of request * 2 ^ 16 + request_code request }
+fn identify(request: Request) -> u32
+    ensures { result ≡ request_identification request }
 {
     sender_number(request) as u32 * 0x1_0000 + code_of(request)
 }
 
-/// An interruption that takes a request.
-fn take(r: &Registers, kind: u8, identification: u32, request: u8, sender: u8) -> Done
-    ensures { result ≡ taking r.now kind identification request sender }
+/// An interruption that takes what is pending.
+fn interrupt_by(r: &Registers, kind: Interruption, identification: u32, taken: Taken) -> Done
+    ensures { result ≡ interrupted_by r.now kind identification taken }
 {
-    let mut d = interrupt(*r, kind, identification, ArrayVec::new());
-    d.request = request;
-    d.sender = sender;
+    let mut d = interrupt(*r, Some(kind), identification, ArrayVec::new());
+    d.taken = Some(taken);
     d
 }
 
@@ -69,23 +55,28 @@ pub(crate) fn external(r: &Registers, request: Option<Request>) -> Done
     ensures { result ≡ requested r.now request }
 {
     match request {
-        Some(q) => take(r, 3, identification_of(q), number_of(q), sender_number(q)),
-        None => interrupt(*r, 0, 0, ArrayVec::new()),
+        Some(q) => interrupt_by(r, Interruption::External, identify(q), Taken::Request(q)),
+        None => interrupt(*r, None, 0, ArrayVec::new()),
     }
 }
 
 /// A restart, which has no identification.
 pub(crate) fn restart(r: &Registers) -> Done
-    ensures { result ≡ taking r.now 4 0 5 0 }
+    ensures { result ≡ interrupted_by r.now RestartOf 0 TakenRestart }
 {
-    take(r, 4, 0, 5, 0)
+    interrupt_by(r, Interruption::Restart, 0, Taken::Restart)
 }
 
 /// An early specification exception: the identification has no length.
 pub(crate) fn early(r: &Registers) -> Done
-    ensures { result ≡ interrupted r.now 1 6 [] }
+    ensures { result ≡ interrupted r.now (Some ProgramOf) SPECIFICATION_CODE [] }
 {
-    interrupt(*r, 1, 6, ArrayVec::new())
+    interrupt(
+        *r,
+        Some(Interruption::Program),
+        SPECIFICATION as u32,
+        ArrayVec::new(),
+    )
 }
 
 /// A unit whose fetch a program exception refuses; its length is by the first byte, which is zero where

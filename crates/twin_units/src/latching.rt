@@ -32,7 +32,7 @@ fn unit_bytes<V: View>(r: &Registers, view: &mut V, side: &Side) -> [u8; 8]
     ensures bytes { result ≡ unit_latch r.now (memory (V.bytes view.old) side.now.keys) }
     ensures same { V.bytes view.new ≡ V.bytes view.old }
 {
-    let fetched = instruction(r, &side.keys, view, r.psw.w1 % 0x8000_0000);
+    let fetched = instruction(r, &side.keys, view, r.psw.address());
     if fetched.fault == 0 {
         bytes_of(0, fetched.len, &fetched.bytes)
     } else {
@@ -66,6 +66,6 @@ pub fn latch<V: View>(r: &Registers, cpu: CpuNo, view: &mut V, side: &Side) -> F
     ensures same { V.bytes view.new ≡ V.bytes view.old }
 {
     latches_tell_one_bit();
-    let bytes = bytes_for(due(r, &side.bus, cpu), r, view, side);
+    let bytes = bytes_for(due(r, side.clock, &side.bus, cpu), r, view, side);
     FetchLatch { bytes, odd: false }.sealed()
 }

@@ -3,7 +3,8 @@ ghost use Rattle.std.specs.Prelude.{◌≡◌, ℕ, ◌≤◌, ◌<◌, ◌^◌,
 ghost use Rattle.esa_model.specs.Access.{codes, noted_of, whole as whole_of};
 ghost use Rattle.esa_model.specs.Line.{part};
 ghost use Rattle.esa_model.specs.Machine.{Machine};
-ghost use Rattle.esa_model.specs.Table.{length_of, row_at, row_numbered};
+ghost use Rattle.esa_model.specs.Rows.All.{is_of_kind};
+ghost use Rattle.esa_model.specs.Table.{kind_at, kind_numbered, length_of, row_at, row_numbered};
 ghost use Rattle.esa_model.specs.Unit.{executed, instructed, modified, target_of};
 ghost use Rattle.esa_model.specs.Word.{first_code};
 ghost use Rattle.operand_access.specs.Seen.{memory, IsInside};
@@ -14,9 +15,11 @@ use crate::done::Done;
 use crate::exceptions::{perform, stop};
 use abs_storage::View;
 use arrayvec::ArrayVec;
+use esa_model::codes::{EXECUTE, EXECUTED, OPERATION};
 use esa_model::instructions::{Decoded, Row};
+use esa_model::kinds::Kind;
 use esa_model::machine::{CpuNo, Registers};
-use esa_table::{decode, row};
+use esa_table::{decode, kind, row};
 use operand_access::{effective, instruction, note_operand, operand_code, whole};
 use result_packet::Side;
 use row_frame::Instruction;
@@ -29,6 +32,17 @@ fn row_of(d: &Decoded) -> Row
 {
     match row(d.row) {
         Some(row) => row,
+        None => unreachable!(),
+    }
+}
+
+/// The kind of the row of an instruction of the table.
+fn kind_of(d: &Decoded) -> Kind
+    requires { kind_at d.now.row ≡ Some (kind_numbered d.now.row) }
+    ensures { result ≡ kind_numbered d.now.row }
+{
+    match kind(d.row) {
+        Some(kind) => kind,
         None => unreachable!(),
     }
 }
@@ -51,11 +65,12 @@ fn instruct<V: View>(
     ensures same { V.bytes view.new ≡ V.bytes view.old }
 {
     let Some(decoded) = decode(bytes) else {
-        return stop(r, len, 1, blocks);
+        return stop(r, len, OPERATION, blocks);
     };
     let row = row_of(&decoded);
+    let kind = kind_of(&decoded);
     let i = Instruction { decoded, own, len };
-    perform(&row, r, cpu, view, side, &i, blocks)
+    perform(&row, kind, r, cpu, view, side, &i, blocks)
 }
 
 /// The address of the target of EX, from its bytes.
@@ -111,8 +126,8 @@ fn execute<V: View>(
         return stop(r, 4, target.fault, blocks);
     }
     note_operand(r, &whole(at, target.len as u32, true, false), &mut blocks);
-    if target.bytes[0] == 0x44 {
-        return stop(r, 4, 3, blocks);
+    if target.bytes[0] == EXECUTE {
+        return stop(r, 4, EXECUTED, blocks);
     }
     let modified = modify(r, bytes[1] / 16, &target.bytes);
     instruct(r, cpu, view, side, &modified, at, 4, blocks)
@@ -170,14 +185,14 @@ pub(crate) fn unit_from<V: View>(
     ensures sound { (m : Machine) → IsAt m cpu.0 r.now (V.bytes view.old) side.now → IsSound m cpu.0 result }
     ensures same { V.bytes view.new ≡ V.bytes view.old }
 {
-    let at = r.psw.w1 % 0x8000_0000;
+    let at = r.psw.address();
     let len = length_by(bytes[0]);
     let code = code_of(r, &side.keys, view, at, len);
     if code != 0 {
         return stop(r, len, code, ArrayVec::new());
     }
     let blocks = blocks_of(r, at, len);
-    if bytes[0] == 0x44 {
+    if bytes[0] == EXECUTE {
         execute(r, cpu, view, side, bytes, blocks)
     } else {
         instruct(r, cpu, view, side, bytes, at, len, blocks)

@@ -1,15 +1,18 @@
 // What a packet tells of an event.
 ghost use Rattle.std.specs.Prelude.{◌≡◌, ◌==◌, ◌≤◌, if◌then◌else◌, length};
 ghost use Rattle.esa_model.specs.Machine.{registers_after};
-ghost use Rattle.esa_model.specs.Packet.{console_count, console_kind, fields, filled, first_piece, piece_at};
+ghost use Rattle.esa_model.specs.Packet.{console_count, console_kind, fields, filled, first_piece, old_psw, piece_at};
 
 use crate::done::Done;
 use abs_storage::View;
 use arrayvec::ArrayVec;
-use control_rows::psw_left;
+use esa_model::events::Interruption;
 use esa_model::machine::{Psw, Registers};
 use operand_access::place_of;
-use packet_law::Fields;
+use result_packet::{
+    Fields, interruption_number, key_block, key_byte, order_number, order_target, psw_left,
+    taken_number, taken_sender,
+};
 
 /// The registers after an event: the new PSW of an interruption is fetched after all that is stored.
 #[tactic(auto, unfolding(esa_model::specs::Machine::registers_after, esa_model::specs::Machine::psw_after, esa_model::specs::Machine::storage_after))]
@@ -19,15 +22,26 @@ fn registers_left<V: View>(r: &Registers, d: &Done, view: &mut V) -> Registers
 {
     let stored = d.stored.as_slice();
     let mut left = d.registers;
-    left.psw = psw_left(r, view, d.to, stored, d.kind, left.psw, d.identification);
+    left.psw = psw_left(
+        r,
+        view,
+        d.to,
+        stored,
+        d.interruption,
+        left.psw,
+        d.identification,
+    );
     left
 }
 
 /// The PSW that an interruption stores, zeros where nothing interrupts.
-fn old_of(kind: u8, psw: Psw) -> Psw
-    ensures { result ≡ (if kind == 0 then record { w0 = 0; w1 = 0 } else psw) }
+fn old_of(interruption: Option<Interruption>, psw: Psw) -> Psw
+    ensures { result ≡ old_psw interruption psw }
 {
-    if kind == 0 { Psw { w0: 0, w1: 0 } } else { psw }
+    match interruption {
+        Some(_) => psw,
+        None => Psw { w0: 0, w1: 0 },
+    }
 }
 
 /// What is done with the console: 0 nothing, 1 a write, 2 a read, also where no byte was left.
@@ -111,15 +125,15 @@ pub(crate) fn fields_of<V: View>(r: &Registers, d: &Done, view: &mut V) -> Field
     let second_at = place_for(r, d.to as u64 + first_len as u64, second_len);
     Fields {
         registers: registers_left(r, d, view),
-        kind: d.kind,
-        old: old_of(d.kind, d.registers.psw),
+        kind: interruption_number(d.interruption),
+        old: old_of(d.interruption, d.registers.psw),
         identification: d.identification,
-        request: d.request,
-        sender: d.sender,
-        order_to: d.order_to,
-        order: d.order,
-        block: d.block,
-        key: d.key,
+        request: taken_number(d.taken),
+        sender: taken_sender(d.taken),
+        order_to: order_target(d.sent),
+        order: order_number(d.sent),
+        block: key_block(d.set_key),
+        key: key_byte(d.set_key),
         console: console_of(d.console_in, out),
         count: count_of(d.console_in, out),
         first_len,

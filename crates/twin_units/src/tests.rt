@@ -21,6 +21,7 @@ fn new_side(alloc: Global) -> Result<Side, Fail> {
                 keys,
                 bus,
                 console: Console::new(Vec::new(alloc)),
+                clock: 0,
             })
         }
         _ => Err("no memory".into()),
@@ -55,6 +56,7 @@ fn event(rt: &HostRuntime, w0: u32, w1: u32) -> Result<(FetchLatch, Packet), Fai
         control,
         psw: Psw { w0, w1 },
         prefix: 0,
+        clocks: [0; 4],
     };
     let told = latch(&r, CpuNo(0), &mut storage, &side);
     let packet = compute(&told, &r, CpuNo(0), &mut storage, &side);

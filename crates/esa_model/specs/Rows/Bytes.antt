@@ -1,17 +1,19 @@
 -- Rows on bytes in storage, and the units of the long moves and comparisons.
 -- Source: Principles of Operation, chapter on general instructions; the bytes are those of Moves and LongMoves. That a
 -- unit of a long operand has at most 256 bytes, and which bytes are tested, are choices of this project.
-use Rattle.std.specs.Prelude.{ℕ, zero, suc, ◌+◌, ◌-◌, ◌*◌, ◌/◌, ◌^◌, ◌==◌, ◌&&◌, not, min, max, if◌then◌else◌, List, [], ◌∷◌, ◌++◌, Bool, true, false, Option, Some, None, take, replicate, slice_set}
+use Rattle.std.specs.Prelude.{ℕ, zero, suc, ◌+◌, ◌-◌, ◌*◌, ◌/◌, ◌^◌, ◌&&◌, min, max, if◌then◌else◌, List, [], ◌∷◌, ◌++◌, Bool, true, false, Option, Some, None, take, replicate, slice_set}
 use Rattle.esa_model.specs.declared.machine.Registers.{Registers}
+use Rattle.esa_model.specs.declared.kinds.ByteKind.{ByteKind}
+use Rattle.esa_model.specs.declared.kinds.ByteKind.TheVariants.{Move, Combine, Compare, Translate, TranslateAndTest, MoveInverse, MoveLong, CompareLong}
 use Rattle.esa_model.specs.declared.long_operands.LongOperands.{LongOperands}
 use Rattle.esa_model.specs.declared.long_operands.MoveUnit.{MoveUnit}
 use Rattle.esa_model.specs.declared.long_operands.CompareUnit.{CompareUnit}
 use Rattle.esa_model.specs.declared.long_operands.Hit.{Hit}
 use Rattle.esa_model.specs.Psw.{is_wide, wrapped}
 use Rattle.esa_model.specs.Access.{Operand, written, whole, byte, bytes}
-use Rattle.esa_model.specs.Moves.{combined, move_code, compare_code, hit_of, hit_code, inverted}
+use Rattle.esa_model.specs.Moves.{is_move, combined, move_code, compare_code, hit_of, hit_code, inverted}
 use Rattle.esa_model.specs.LongMoves.{long_operands, after_unit, move_row, compare_row}
-use Rattle.esa_model.specs.Line.{Line, Inputs, general, first_at, second_at, advanced, coded, marked, is_even, always, two, leaves, stores, lists, nothing}
+use Rattle.esa_model.specs.Line.{Line, Inputs, general, first_at, second_at, advanced, coded, marked, is_even, always, two, leaves, stores}
 
 -- the number of bytes of SS with one length
 abbrev pub size : Inputs → ℕ
@@ -31,9 +33,6 @@ second_bytes i = bytes i.registers i.storage (from i) (size i)
 
 -- ---- MVN MVC MVZ NC OC XC: byte by byte from the left, each from the storage as the bytes before it have left it
 
-abbrev pub moves : List ℕ
-moves = 0xD1 ∷ 0xD2 ∷ 0xD3 ∷ 0xD4 ∷ 0xD6 ∷ 0xD7 ∷ []
-
 -- the byte that place n gets where the storage is this
 abbrev pub moved_byte : ℕ → Registers → ℕ → ℕ → ℕ → List ℕ → ℕ
 moved_byte op r to from n storage = combined op (byte r storage (to + n)) (byte r storage (from + n))
@@ -47,10 +46,10 @@ abbrev pub moved_bytes : ℕ → Inputs → List ℕ
 moved_bytes op i = moved op i.registers i.storage (to i) (from i) (size i)
 
 -- MVC does not fetch its first operand
-abbrev pub move_line : ℕ → Line
-move_line op = record {
+abbrev pub move_line : ℕ → Bool → Line
+move_line op fetches = record {
   in_order = always;
-  operands = λ i. two (whole (to i) (size i) (not (op == 0xD2)) true) (whole (from i) (size i) true false);
+  operands = λ i. two (whole (to i) (size i) fetches true) (whole (from i) (size i) true false);
   effect = λ i. stores (coded (advanced i.registers i.len) (move_code op (moved_bytes op i))) (moved_bytes op i);
 }
 
@@ -185,15 +184,18 @@ compare_long_line = record {
   effect = λ i. leaves (compare_long_registers i (compare_unit i));
 }
 
-abbrev pub opcodes : List ℕ
-opcodes = moves ++ (0xD5 ∷ 0xDC ∷ 0xDD ∷ 0xE8 ∷ 0x0E ∷ 0x0F ∷ [])
+unfoldable pub bytes_line : ByteKind → ℕ → Line
+bytes_line Move op = move_line op false
+bytes_line Combine op = move_line op true
+bytes_line Compare op = compare_line
+bytes_line Translate op = translate_line
+bytes_line TranslateAndTest op = translate_and_test_line
+bytes_line MoveInverse op = move_inverse_line
+bytes_line MoveLong op = move_long_line
+bytes_line CompareLong op = compare_long_line
 
-unfoldable pub bytes_line : ℕ → Line
-bytes_line op =
-    if lists op moves then move_line op else
-    if op == 0xD5 then compare_line else
-    if op == 0xDC then translate_line else
-    if op == 0xDD then translate_and_test_line else
-    if op == 0xE8 then move_inverse_line else
-    if op == 0x0E then move_long_line else
-    if op == 0x0F then compare_long_line else nothing
+-- whether Moves has the byte of a row of this kind and opcode
+unfoldable pub has_bytes : ByteKind → ℕ → Bool
+has_bytes Move op = is_move op
+has_bytes Combine op = is_move op
+has_bytes k op = true

@@ -1,6 +1,8 @@
 -- Rows of one operand in storage: stores, multiple loads, bytes under a mask, immediate bytes, compare and swap.
 -- Source: Principles of Operation, chapter on general instructions; masks and swaps are those of MaskRows.
-use Rattle.std.specs.Prelude.{ℕ, ◌+◌, ◌-◌, ◌*◌, ◌/◌, ◌%◌, ◌^◌, nat_lt, ◌==◌, ◌&&◌, not, if◌then◌else◌, List, [], ◌∷◌, ◌++◌, true, false, length, map}
+use Rattle.std.specs.Prelude.{ℕ, ◌+◌, ◌-◌, ◌*◌, ◌/◌, ◌%◌, ◌^◌, nat_lt, ◌==◌, ◌&&◌, not, if◌then◌else◌, List, [], ◌∷◌, ◌++◌, Bool, true, false, length, map}
+use Rattle.esa_model.specs.declared.kinds.StoreKind.{StoreKind}
+use Rattle.esa_model.specs.declared.kinds.StoreKind.TheVariants.{Character, Halfword, Word, StoreMultiple, LoadMultiple, InsertCharacter, InsertUnderMask, CompareUnderMask, StoreUnderMask, TestUnderMask, MoveImmediate, CombineImmediate, CompareImmediate, TestAndSet, CompareAndSwap, CompareDoubleAndSwap}
 use Rattle.std.specs.List.{range_with_len, flat_map}
 use Rattle.byteorder.specs.Endian.{big_bytes}
 use Rattle.esa_model.specs.declared.machine.Registers.{Registers}
@@ -9,29 +11,18 @@ use Rattle.esa_model.specs.declared.instructions.Decoded.{Decoded}
 use Rattle.esa_model.specs.Access.{Operand, whole, byte, bytes}
 use Rattle.esa_model.specs.WordRows.{bits_code}
 use Rattle.esa_model.specs.MaskRows.{test_under_mask_code, insert_character_row, places, selected, insert_under_mask_row, compare_under_mask_code, compare_and_swap_row, compare_double_and_swap_row, order_of_bytes}
-use Rattle.esa_model.specs.Moves.{combined}
-use Rattle.esa_model.specs.Line.{Line, Inputs, general, indexed, second_at, first_at, advanced, coded, word_at, is_even, always, one, leaves, stores, valued, with_value, with_pair, lists, nothing}
+use Rattle.esa_model.specs.Moves.{combined, is_move}
+use Rattle.esa_model.specs.Line.{Line, Inputs, general, indexed, second_at, first_at, advanced, coded, word_at, is_even, always, one, leaves, stores, valued, with_value, with_pair, register_count}
 
--- STH STC ST
-abbrev pub words : List ℕ
-words = 0x40 ∷ 0x42 ∷ 0x50 ∷ []
-
--- the number of bytes that they store: 2, 1, 4
-abbrev pub stored_len : ℕ → ℕ
-stored_len op = if op == 0x40 then 2 else if op == 0x42 then 1 else 4
-
+-- STC STH ST: the right 1, 2 or 4 bytes of R1
 abbrev pub store_line : ℕ → Line
-store_line op = record {
+store_line len = record {
   in_order = always;
-  operands = λ i. one (whole (indexed i.registers i.decoded) (stored_len op) false true);
-  effect = λ i. stores (advanced i.registers i.len)
-      (big_bytes (stored_len op) (general i.registers i.decoded.r1 % 256 ^ stored_len op));
+  operands = λ i. one (whole (indexed i.registers i.decoded) len false true);
+  effect = λ i. stores (advanced i.registers i.len) (big_bytes len (general i.registers i.decoded.r1 % 256 ^ len));
 }
 
 -- ---- STM LM: registers R1 to R3 in ascending order, 0 after 15
-
-abbrev pub register_count : Decoded → ℕ
-register_count d = (d.r2 + 16 - d.r1) % 16 + 1
 
 unfoldable pub registers_stored : Registers → Decoded → List ℕ
 registers_stored r d = flat_map (λ k. big_bytes 4 (general r ((d.r1 + k) % 16))) (range_with_len 0 (register_count d))
@@ -126,9 +117,6 @@ move_immediate = record {
 }
 
 -- NI OI XI: and, or, exclusive or, as NC OC XC, whose opcodes are X'40' higher
-abbrev pub logicals : List ℕ
-logicals = 0x94 ∷ 0x96 ∷ 0x97 ∷ []
-
 abbrev pub combined_byte : ℕ → Inputs → ℕ
 combined_byte op i = combined (op + 0x40) (first_byte i) (immediate i)
 
@@ -185,23 +173,25 @@ compare_double_and_swap = record {
       else leaves (with_pair i.registers i.decoded.r1 i.len (pair_swap_value i));
 }
 
-abbrev pub opcodes : List ℕ
-opcodes =
-    words ++ (0x90 ∷ 0x98 ∷ 0x43 ∷ 0xBF ∷ 0xBD ∷ 0xBE ∷ 0x91 ∷ 0x92 ∷ 0x94 ∷ 0x96 ∷ 0x97 ∷ 0x95 ∷ 0x93 ∷ 0xBA ∷ 0xBB ∷ [])
+unfoldable pub stores_line : StoreKind → ℕ → Line
+stores_line Character op = store_line 1
+stores_line Halfword op = store_line 2
+stores_line Word op = store_line 4
+stores_line StoreMultiple op = store_multiple
+stores_line LoadMultiple op = load_multiple
+stores_line InsertCharacter op = insert_character
+stores_line InsertUnderMask op = insert_under_mask
+stores_line CompareUnderMask op = compare_under_mask
+stores_line StoreUnderMask op = store_under_mask
+stores_line TestUnderMask op = test_under_mask
+stores_line MoveImmediate op = move_immediate
+stores_line CombineImmediate op = combine_immediate op
+stores_line CompareImmediate op = compare_immediate
+stores_line TestAndSet op = test_and_set
+stores_line CompareAndSwap op = compare_and_swap
+stores_line CompareDoubleAndSwap op = compare_double_and_swap
 
-unfoldable pub stores_line : ℕ → Line
-stores_line op =
-    if lists op words then store_line op else
-    if op == 0x90 then store_multiple else
-    if op == 0x98 then load_multiple else
-    if op == 0x43 then insert_character else
-    if op == 0xBF then insert_under_mask else
-    if op == 0xBD then compare_under_mask else
-    if op == 0xBE then store_under_mask else
-    if op == 0x91 then test_under_mask else
-    if op == 0x92 then move_immediate else
-    if lists op logicals then combine_immediate op else
-    if op == 0x95 then compare_immediate else
-    if op == 0x93 then test_and_set else
-    if op == 0xBA then compare_and_swap else
-    if op == 0xBB then compare_double_and_swap else nothing
+-- whether Moves has the byte of a row of this kind and opcode
+unfoldable pub has_store : StoreKind → ℕ → Bool
+has_store CombineImmediate op = is_move (op + 0x40)
+has_store k op = true

@@ -1,49 +1,11 @@
 -- Rows that put a value of words into a register or a pair.
 -- Source: Principles of Operation, chapter on general instructions; the values are those of WordRows.
-use Rattle.std.specs.Prelude.{ℕ, ◌+◌, ◌%◌, ◌==◌, if◌then◌else◌, List, [], ◌∷◌, ◌++◌, Bool, true, false}
+use Rattle.std.specs.Prelude.{ℕ, ◌+◌, ◌%◌, ◌==◌, if◌then◌else◌, Bool, true, false}
+use Rattle.esa_model.specs.declared.kinds.WordKind.{WordKind}
+use Rattle.esa_model.specs.declared.kinds.WordKind.TheVariants.{Registers, Pairs, Storage, PairStorage, Halfwords, Immediates, Shifts, PairShifts, Address}
 use Rattle.esa_model.specs.Access.{whole}
-use Rattle.esa_model.specs.WordRows.{plain, rr_row, half_row, shift_row}
-use Rattle.esa_model.specs.Line.{Line, Inputs, general, indexed, second_at, word_at, half_at, is_even, always, one, no_operands, valued, pair_valued, lists, nothing}
-
--- LPR LNR LTR LCR NR CLR OR XR LR CR AR SR ALR SLR; MSR, whose value has the opcode of MS
-abbrev pub words : List ℕ
-words =
-    0x10 ∷ 0x11 ∷ 0x12 ∷ 0x13 ∷ 0x14 ∷ 0x15 ∷ 0x16 ∷ 0x17 ∷ 0x18 ∷ 0x19 ∷ 0x1A ∷ 0x1B ∷ 0x1E ∷ 0x1F ∷ 0xB252 ∷ []
-
--- MR DR
-abbrev pub pairs : List ℕ
-pairs = 0x1C ∷ 0x1D ∷ []
-
--- N CL O X L C A S AL SL MS
-abbrev pub words_at : List ℕ
-words_at = 0x54 ∷ 0x55 ∷ 0x56 ∷ 0x57 ∷ 0x58 ∷ 0x59 ∷ 0x5A ∷ 0x5B ∷ 0x5E ∷ 0x5F ∷ 0x71 ∷ []
-
--- M D
-abbrev pub pairs_at : List ℕ
-pairs_at = 0x5C ∷ 0x5D ∷ []
-
--- LH CH AH SH MH
-abbrev pub halves_at : List ℕ
-halves_at = 0x48 ∷ 0x49 ∷ 0x4A ∷ 0x4B ∷ 0x4C ∷ []
-
--- TMH TML LHI AHI MHI CHI
-abbrev pub immediates : List ℕ
-immediates = 0xA70 ∷ 0xA71 ∷ 0xA78 ∷ 0xA7A ∷ 0xA7C ∷ 0xA7E ∷ []
-
--- SRL SLL SRA SLA
-abbrev pub shifts : List ℕ
-shifts = 0x88 ∷ 0x89 ∷ 0x8A ∷ 0x8B ∷ []
-
--- SRDL SLDL SRDA SLDA
-abbrev pub pair_shifts : List ℕ
-pair_shifts = 0x8C ∷ 0x8D ∷ 0x8E ∷ 0x8F ∷ []
-
--- LA
-abbrev pub addresses : List ℕ
-addresses = 0x41 ∷ []
-
-abbrev pub opcodes : List ℕ
-opcodes = words ++ (pairs ++ (words_at ++ (pairs_at ++ (halves_at ++ (immediates ++ (shifts ++ (pair_shifts ++ addresses)))))))
+use Rattle.esa_model.specs.WordRows.{plain, rr_row, is_rr, half_row, is_half, shift_row, is_shift}
+use Rattle.esa_model.specs.Line.{Line, Inputs, general, indexed, second_at, word_at, half_at, is_even, always, one, no_operands, valued, pair_valued}
 
 -- the opcode by which WordRows has the value of a row on two words
 abbrev pub word_row : ℕ → ℕ
@@ -136,14 +98,25 @@ by_address = record {
   effect = λ i. valued i.registers i.decoded.r1 i.len (plain (at_second i));
 }
 
-unfoldable pub words_line : ℕ → Line
-words_line op =
-    if lists op words then by_words op else
-    if lists op pairs then by_pairs op else
-    if lists op words_at then by_words_at op else
-    if lists op pairs_at then by_pairs_at op else
-    if lists op halves_at then by_halves_at op else
-    if lists op immediates then by_immediates op else
-    if lists op shifts then by_shifts op else
-    if lists op pair_shifts then by_pair_shifts op else
-    if lists op addresses then by_address else nothing
+unfoldable pub words_line : WordKind → ℕ → Line
+words_line Registers op = by_words op
+words_line Pairs op = by_pairs op
+words_line Storage op = by_words_at op
+words_line PairStorage op = by_pairs_at op
+words_line Halfwords op = by_halves_at op
+words_line Immediates op = by_immediates op
+words_line Shifts op = by_shifts op
+words_line PairShifts op = by_pair_shifts op
+words_line Address op = by_address
+
+-- whether WordRows has a value for a row of this kind and opcode
+unfoldable pub has_words : WordKind → ℕ → Bool
+has_words Registers op = is_rr (word_row op)
+has_words Pairs op = is_rr op
+has_words Storage op = is_rr op
+has_words PairStorage op = is_rr op
+has_words Halfwords op = is_half op
+has_words Immediates op = is_half (immediate_row op)
+has_words Shifts op = is_shift op
+has_words PairShifts op = is_shift op
+has_words Address op = true

@@ -51,36 +51,3 @@ fn write_fault_at_the_third_trace_line(rt: HostRuntime) -> Result<(), Fail> {
     );
     Ok(())
 }
-
-// SIGNAL PROCESSOR by itself after LA, and under EX after BASR.
-#[test]
-fn turns_that_are_not_built(rt: HostRuntime) -> Result<(), Fail> {
-    let alloc = rt.alloc();
-    let cases: [(&[u8], &[u8]); 2] = [
-        (
-            &[0x41, 0x10, 0x00, 0x05, 0xAE, 0x03, 0x00, 0x06],
-            b"1 C0 00080000 80010004\n",
-        ),
-        (
-            &[0x0D, 0x10, 0x44, 0x00, 0x10, 0x04, 0xAE, 0x03, 0x00, 0x06],
-            b"1 C0 00080000 80010002\n",
-        ),
-    ];
-    for (text, trace) in cases {
-        let deck = deck_of(alloc, text)?;
-        let given = Given {
-            deck: &deck,
-            console: b"",
-            schedule: b"0*2\n",
-            script: b"",
-            failing: &[],
-        };
-        let left = run(alloc, WORDS, &given, 400)?;
-        assert_eq!(rt; left.status.number(), 11);
-        assert_eq!(rt; left.shelf.text_of(FileNo(0)), HEAD);
-        assert_eq!(rt; left.shelf.text_of(FileNo(1)), trace);
-        assert_eq!(rt; left.out.taken(), b"".as_slice());
-        assert_eq!(rt; left.err.taken(), b"not yet\n".as_slice());
-    }
-    Ok(())
-}

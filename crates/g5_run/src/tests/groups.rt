@@ -8,6 +8,8 @@ use std::test::Fail;
 fn traces_of_groups(rt: HostRuntime) -> Result<(), Fail> {
     let cases: [(&[u8], &[u8], &[u8]); 12] = [
         // Words: arithmetic, comparison, shift.
+        // BALR 12,0; L 1,X'1E'(12); A 1,X'22'(12); SR 1,1; C 1,X'22'(12); LHI 1,-1; X 1,X'1E'(12);
+        // SRA 1,X'1F'.
         (
             &[
                 0x05, 0xC0, 0x58, 0x10, 0xC0, 0x1E, 0x5A, 0x10, 0xC0, 0x22, 0x1B, 0x11, 0x59, 0x10,
@@ -26,6 +28,8 @@ fn traces_of_groups(rt: HostRuntime) -> Result<(), Fail> {
 8 C0 00081000 8001001C\n",
         ),
         // Stores: words, bytes under a mask, compare and swap.
+        // BALR 12,0; LA 2,X'ABC'; ST 2,X'22'(12); MVI X'1E'(12),X'03'; OI X'1E'(12),X'F0';
+        // TM X'1E'(12),X'10'; STCM 2,6,X'1F'(12); CS 2,3,X'22'(12).
         (
             &[
                 0x05, 0xC0, 0x41, 0x20, 0x0A, 0xBC, 0x50, 0x20, 0xC0, 0x22, 0x92, 0x03, 0xC0, 0x1E,
@@ -44,6 +48,7 @@ fn traces_of_groups(rt: HostRuntime) -> Result<(), Fail> {
 8 C0 00080000 8001001E 010026=0000\n",
         ),
         // Branches: counts, links, relative.
+        // BALR 12,0; LA 2,2; BCT 2,4(12); BRC 15,*+8; BAS 14,X'1A'(12); BCR 0,0; BCR 15,14.
         (
             &[
                 0x05, 0xC0, 0x41, 0x20, 0x00, 0x02, 0x46, 0x20, 0xC0, 0x04, 0xA7, 0xF4, 0x00, 0x04,
@@ -62,6 +67,9 @@ fn traces_of_groups(rt: HostRuntime) -> Result<(), Fail> {
 8 C0 00080000 80010018\n",
         ),
         // Bytes: move, compare, translate, and the like.
+        // BALR 12,0; MVC X'2E'(4,12),X'32'(12); CLC X'2E'(4,12),X'32'(12);
+        // TR X'3A'(4,12),X'3E'(12); XC X'2E'(4,12),X'2E'(12); MVN X'2E'(4,12),X'32'(12);
+        // TRT X'2E'(4,12),X'3E'(12).
         (
             &[
                 0x05, 0xC0, 0xD2, 0x03, 0xC0, 0x2E, 0xC0, 0x32, 0xD5, 0x03, 0xC0, 0x2E, 0xC0, 0x32,
@@ -81,6 +89,9 @@ fn traces_of_groups(rt: HostRuntime) -> Result<(), Fail> {
 7 C0 00081000 80010026\n",
         ),
         // Decimals, with an overflow that is not enabled.
+        // BALR 12,0; AP X'2E'(2,12),X'30'(1,12); ZAP X'2E'(2,12),X'31'(1,12);
+        // MP X'2E'(2,12),X'31'(1,12); CP X'2E'(2,12),X'31'(1,12); UNPK X'34'(4,12),X'2E'(2,12);
+        // PACK X'32'(2,12),X'34'(4,12); SRP X'2E'(2,12),1,0.
         (
             &[
                 0x05, 0xC0, 0xFA, 0x10, 0xC0, 0x2E, 0xC0, 0x30, 0xF8, 0x10, 0xC0, 0x2E, 0xC0, 0x31,
@@ -101,6 +112,7 @@ fn traces_of_groups(rt: HostRuntime) -> Result<(), Fail> {
 8 C0 00082000 8001002C 010030=040C\n",
         ),
         // Editing, with and without a mark.
+        // BALR 12,0; ED X'1E'(7,12),X'26'(12); EDMK X'2A'(7,12),X'26'(12); ST 1,X'32'(12).
         (
             &[
                 0x05, 0xC0, 0xDE, 0x06, 0xC0, 0x1E, 0xC0, 0x26, 0xDF, 0x06, 0xC0, 0x2A, 0xC0, 0x26,
@@ -116,6 +128,8 @@ fn traces_of_groups(rt: HostRuntime) -> Result<(), Fail> {
 4 C0 00082000 80010012 010035=01 010037=2F\n",
         ),
         // Controls: system masks, control registers, keys, and a wait PSW, after which two turns are idle.
+        // BALR 12,0; STNSM X'2E'(12),X'0F'; STOSM X'2E'(12),X'03'; SSM X'2F'(12);
+        // STCTL 14,14,X'32'(12); LA 2,X'60'; SSKE 2,3; ISKE 4,3; ST 4,X'36'(12); LPSW X'3E'(12).
         (
             &[
                 0x05, 0xC0, 0xAC, 0x0F, 0xC0, 0x2E, 0xAD, 0x03, 0xC0, 0x2E, 0x80, 0x00, 0xC0, 0x2F,
@@ -139,6 +153,8 @@ fn traces_of_groups(rt: HostRuntime) -> Result<(), Fail> {
 10 C0 000A0000 80010050\n",
         ),
         // EXECUTE of MVC, TR, AP, ED and MVCL.
+        // BALR 12,0; LA 3,3; EX 3,X'3E'(12); EX 3,X'44'(12); LA 5,X'10'; EX 5,X'4A'(12); LA 5,6;
+        // EX 5,X'50'(12); LA 6,X'7E'(12); LA 7,4; LA 8,X'82'(12); LA 9,4; EX 0,X'56'(12).
         (
             &[
                 0x05, 0xC0, 0x41, 0x30, 0x00, 0x03, 0x44, 0x30, 0xC0, 0x3E, 0x44, 0x30, 0xC0, 0x44,
@@ -169,6 +185,7 @@ fn traces_of_groups(rt: HostRuntime) -> Result<(), Fail> {
 13 C0 00080000 80010032 010080=E1E2E3E4\n",
         ),
         // A long move of 600 bytes, in three units.
+        // BALR 12,0; LA 6,X'400'(12); LA 7,X'258'; LA 8,X'800'(12); LA 9,X'258'; MVCL 6,8.
         (
             &[
                 0x05, 0xC0, 0x41, 0x60, 0xC4, 0x00, 0x41, 0x70, 0x02, 0x58, 0x41, 0x80, 0xC8, 0x00,
@@ -186,6 +203,7 @@ fn traces_of_groups(rt: HostRuntime) -> Result<(), Fail> {
 8 C0 00080000 80010014\n",
         ),
         // A supervisor call with a new PSW of zeros.
+        // BALR 12,0; SVC 5.
         (
             &[0x05, 0xC0, 0x0A, 0x05],
             b"0*2",
@@ -194,6 +212,8 @@ fn traces_of_groups(rt: HostRuntime) -> Result<(), Fail> {
 2 C0 00000000 00000000 000021=08 000024=8001 000027=04 000089=02 00008B=05\n",
         ),
         // Conversions, and moves with offset and inverse.
+        // BALR 12,0; LHI 1,-1; CVD 1,X'26'(12); CVB 2,X'26'(12); ST 2,X'2E'(12);
+        // MVO X'32'(4,12),X'36'(2,12); MVCIN X'3A'(3,12),X'41'(12).
         (
             &[
                 0x05, 0xC0, 0xA7, 0x18, 0xFF, 0xFF, 0x4E, 0x10, 0xC0, 0x26, 0x4F, 0x20, 0xC0, 0x26,
@@ -213,6 +233,7 @@ fn traces_of_groups(rt: HostRuntime) -> Result<(), Fail> {
 7 C0 00080000 8001001E 01003C=C3C2C1\n",
         ),
         // A long comparison of 300 bytes, in two units: the bytes after 261 equal ones differ.
+        // BALR 12,0; LM 6,9,X'E'(12); MVI X'105'(8),X'01'; CLCL 6,8; STM 6,9,X'1E'(12).
         (
             &[
                 0x05, 0xC0, 0x98, 0x69, 0xC0, 0x0E, 0x92, 0x01, 0x81, 0x05, 0x0F, 0x68, 0x90, 0x69,

@@ -61,7 +61,8 @@ fn traces(rt: HostRuntime) -> Result<(), Fail> {
 5 C0 00080000 80010012\n\
 6 C0 00080000 80010002\n",
         ),
-        // LHI 1,X'F1F2'; STC 1,X'801'; STH 1,X'802'; STM 1,2,X'804'; L 3,X'800'; STCM 3,6,X'808'; ICM 3,9,X'808'
+        // LHI 1,X'F1F2'; STC 1,X'801'; STH 1,X'802'; STM 1,2,X'804'; L 3,X'800'; STCM 3,6,X'808';
+        // ICM 3,9,X'808'
         (
             &[
                 0xA7, 0x18, 0xF1, 0xF2, 0x42, 0x10, 0x08, 0x01, 0x40, 0x10, 0x08, 0x02, 0x90, 0x12,
@@ -77,7 +78,8 @@ fn traces(rt: HostRuntime) -> Result<(), Fail> {
 6 C0 00080000 80010018 000808=F2F1\n\
 7 C0 00081000 8001001C\n",
         ),
-        // MVI X'800',X'C1'; MVC X'801'(4),X'800'; XI X'800',X'FF'; CLC X'800'(2),X'801'; TM X'801',X'C1'; CLI X'800',X'C1'
+        // MVI X'800',X'C1'; MVC X'801'(4),X'800'; XI X'800',X'FF'; CLC X'800'(2),X'801';
+        // TM X'801',X'C1'; CLI X'800',X'C1'
         (
             &[
                 0x92, 0xC1, 0x08, 0x00, 0xD2, 0x03, 0x08, 0x01, 0x08, 0x00, 0x97, 0xFF, 0x08, 0x00,
@@ -103,7 +105,8 @@ fn traces(rt: HostRuntime) -> Result<(), Fail> {
 2 C0 00080000 80010008 000812=C5\n\
 3 C0 00080000 8001000E 000800=C5\n",
         ),
-        // BASR 1,0; ZAP X'800'(3),18(2,1); AP X'800'(3),18(2,1); SP X'801'(2),X'801'(2); the field +999
+        // BASR 1,0; ZAP X'800'(3),18(2,1); AP X'800'(3),18(2,1); SP X'801'(2),X'801'(2); the field
+        // +999
         (
             &[
                 0x0D, 0x10, 0xF8, 0x21, 0x08, 0x00, 0x10, 0x12, 0xFA, 0x21, 0x08, 0x00, 0x10, 0x12,
@@ -128,7 +131,8 @@ fn traces(rt: HostRuntime) -> Result<(), Fail> {
 2 C0 00080000 80010008 000800=40202120\n\
 3 C0 00082000 8001000E 000801=40F1F2\n",
         ),
-        // LHI 1,X'F6'; SSKE 1,2; ISKE 3,2; ST 3,X'800'; RRBE 0,2; STOSM X'804',1; STNSM X'804',0; STCTL 0,0,X'808'
+        // LHI 1,X'F6'; SSKE 1,2; ISKE 3,2; ST 3,X'800'; RRBE 0,2; STOSM X'804',1; STNSM X'804',0;
+        // STCTL 0,0,X'808'
         (
             &[
                 0xA7, 0x18, 0x00, 0xF6, 0xB2, 0x2B, 0x00, 0x12, 0xB2, 0x29, 0x00, 0x32, 0x50, 0x30,
@@ -174,7 +178,8 @@ fn traces(rt: HostRuntime) -> Result<(), Fail> {
 5 C0 00082000 80010012 000800=C1C1C1C1\n\
 6 C0 00082000 80010016 000812=0804\n",
         ),
-        // Propagation. BALR 12,0; MVI X'FBE'(12),X'5B'; MVC X'FBF'(256,12),X'FBE'(12), over a border of blocks
+        // Propagation. BALR 12,0; MVI X'FBE'(12),X'5B'; MVC X'FBF'(256,12),X'FBE'(12), over a
+        // border of blocks
         (
             &[
                 0x05, 0xC0, 0x92, 0x5B, 0xCF, 0xBE, 0xD2, 0xFF, 0xCF, 0xBF, 0xCF, 0xBE,
@@ -193,7 +198,8 @@ fn traces(rt: HostRuntime) -> Result<(), Fail> {
 5B5B5B5B5B5B5B5B5B5B5B5B5B5B5B5B5B5B5B5B5B5B5B5B5B5B5B5B5B5B5B5B\
 5B5B5B5B5B5B5B5B5B5B5B5B5B5B5B5B5B5B5B5B5B5B5B5B5B5B5B5B5B5B5B5B\n",
         ),
-        // Decimal overflow. BALR 12,0; L 1,X'18'(12); SPM 1; MVC X'68'(8),X'1C'(12), the new PSW; AP of 999 and 1, which
+        // Decimal overflow. BALR 12,0; L 1,X'18'(12); SPM 1; MVC X'68'(8),X'1C'(12), the new PSW;
+        // AP of 999 and 1, which
         // interrupts; AP of -999 and -1, whose mask bit is zero
         (
             &[
@@ -211,7 +217,8 @@ fn traces(rt: HostRuntime) -> Result<(), Fail> {
 5 C0 00080000 80010014 000029=0834 00002C=8001 00002F=14 00008D=06 00008F=0A 010026=000C\n\
 6 C0 00083000 8001001A 010029=000D\n",
         ),
-        // Decimal divide. BALR 12,0; MVC X'68'(8),X'18'(12), the new PSW; DP of 123 by 5, of 123 by 0, and of 1234 by 1,
+        // Decimal divide. BALR 12,0; MVC X'68'(8),X'18'(12), the new PSW; DP of 123 by 5, of 123 by
+        // 0, and of 1234 by 1,
         // whose quotient is too long
         (
             &[
@@ -241,7 +248,8 @@ fn traces(rt: HostRuntime) -> Result<(), Fail> {
 2 C0 00082000 80010008 01000F=4040F1 010013=F2F3\n\
 3 C0 00080000 8001000E 010016=404040 01001A=F0F0\n",
         ),
-        // Long move. BALR 12,0; LM 6,9,X'18'(12); LTR 7,7; MVI 0(8),X'C1'; MVI 256(8),X'C2'; MVI 599(8),X'C3'; MVCL 6,8 of
+        // Long move. BALR 12,0; LM 6,9,X'18'(12); LTR 7,7; MVI 0(8),X'C1'; MVI 256(8),X'C2';
+        // MVI 599(8),X'C3'; MVCL 6,8 of
         // 600 bytes, in three units; STM 6,9,X'28'(12)
         (
             &[

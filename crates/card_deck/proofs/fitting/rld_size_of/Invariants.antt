@@ -1,5 +1,5 @@
 use Rattle.std.proofs.Common.{◌≡◌, ◌≤◌, ◌+◌, ◌*◌, false, length}
-use Rattle.esa_model.specs.CardWriting.{rld_size}
+use Rattle.deck_model.specs.CardWriting.{rld_size}
 use Rattle.card_deck.proofs.fitting.rld_size_of.Given as goal
 
 abbrev pub invariant-loop-item : goal.invariant-loop-item

@@ -1,7 +1,7 @@
 use Rattle.std.proofs.Common.{◌≡◌, true, ◌≤◌, ◌-◌, ◌*◌, [], length}
-use Rattle.esa_model.specs.Card.{esd_items}
+use Rattle.deck_model.specs.Card.{esd_items}
 use Rattle.std.specs.List.{list_all}
-use Rattle.esa_model.specs.CardWriting.{esd_item_fits}
+use Rattle.deck_model.specs.CardWriting.{esd_item_fits}
 use Rattle.card_deck.proofs.read.esd_items_in.Given as goal
 
 abbrev pub invariant-loop-i : goal.invariant-loop-i

@@ -1,6 +1,6 @@
 use Rattle.std.proofs.Common.{◌≡◌, ◌-◌, ◌+◌, ℕ, length, [], ◌∷◌, ◌++◌, sym, ◌∙◌, ap, arith, false, subst, List}
-use Rattle.esa_model.specs.Card.{rld_raws, raw_items, no_item, omits_next}
-use Rattle.esa_model.specs.declared.cards.RawItem.{RawItem}
+use Rattle.deck_model.specs.Card.{rld_raws, raw_items, no_item, omits_next}
+use Rattle.deck_model.specs.declared.cards.RawItem.{RawItem}
 use Rattle.card_deck.proofs.Sizes.{Filling, filling_start, filling_next, filling_end}
 use Rattle.card_deck.proofs.Raws.{raws_next, raws_none, raws_end}
 use Rattle.card_deck.proofs.read_rld.raw_items_in.Goals as goal

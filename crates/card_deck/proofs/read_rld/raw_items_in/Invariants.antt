@@ -1,5 +1,5 @@
 use Rattle.std.proofs.Common.{◌≡◌, ◌-◌, length}
-use Rattle.esa_model.specs.Card.{raw_items, rld_raws}
+use Rattle.deck_model.specs.Card.{raw_items, rld_raws}
 use Rattle.card_deck.proofs.Sizes.{Filling}
 use Rattle.card_deck.proofs.read_rld.raw_items_in.Given as goal
 

@@ -1,5 +1,5 @@
 use Rattle.std.proofs.Common.{◌≡◌, [], length, drop, take, map}
-use Rattle.esa_model.specs.Card.{rld_items, rld_item}
+use Rattle.deck_model.specs.Card.{rld_items, rld_item}
 use Rattle.card_deck.proofs.read_rld.rld_items_in.Given as goal
 
 abbrev pub invariant-loop-raw : goal.invariant-loop-raw

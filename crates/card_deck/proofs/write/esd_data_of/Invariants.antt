@@ -1,7 +1,7 @@
 use Rattle.std.proofs.Common.{◌≡◌, ◌*◌, ℕ, ◌<◌, true, length, take, drop, get_or}
 use Rattle.std.specs.List.{flat_map, list_all}
-use Rattle.esa_model.specs.declared.cards.EsdItem.{EsdItem}
-use Rattle.esa_model.specs.CardWriting.{esd_item_bytes, esd_item_fits}
+use Rattle.deck_model.specs.declared.cards.EsdItem.{EsdItem}
+use Rattle.deck_model.specs.CardWriting.{esd_item_bytes, esd_item_fits}
 use Rattle.card_deck.proofs.write.esd_data_of.Given as goal
 
 abbrev pub invariant-loop-item : goal.invariant-loop-item

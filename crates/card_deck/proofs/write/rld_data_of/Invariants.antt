@@ -1,6 +1,6 @@
 use Rattle.std.proofs.Common.{◌≡◌, ◌≤◌, ◌+◌, ◌++◌, true, false, length}
 use Rattle.std.specs.List.{list_all}
-use Rattle.esa_model.specs.CardWriting.{rld_size, rld_bytes, rld_item_fits}
+use Rattle.deck_model.specs.CardWriting.{rld_size, rld_bytes, rld_item_fits}
 use Rattle.card_deck.specs.Results.{PointersFit}
 use Rattle.card_deck.proofs.write.rld_data_of.Given as goal
 

@@ -7,4 +7,7 @@ use Rattle.control_instr.proofs.control_row.control.Goals as goal
 pub returns : goal.returns
 returns c =
     let Fit : Control → Type 0 = λ x. length x.stored ≤ stored_len c.args.op c.args.d.now in
-    record { row = c.row_of.ensures; stored = subst Fit (sym c.row_of.ensures) (stored_fits _ _ _ _ _ _ _) }
+    record {
+      row = c.carry_out.ensures;
+      stored = subst Fit (sym c.carry_out.ensures) (stored_fits _ _ _ _ _ _ _);
+    }

@@ -33,4 +33,5 @@ pub returns-clause-some : goal.returns-clause-some
 returns-clause-some c =
     let w = within c.loop-b.b-index (omega arith) in
     let all = take_all c.loop-b.b-index c.args.bytes.now (omega arith) in
-    (ap all_pairs (sym all) ∙ c.loop-b.invariant.pairs, c.loop-b.invariant.value ∙ ap body all, omega arith)
+    let pairs = ap all_pairs (sym all) ∙ c.loop-b.invariant.pairs in
+    (pairs, c.loop-b.invariant.value ∙ ap body all, omega arith)

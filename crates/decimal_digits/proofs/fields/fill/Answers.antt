@@ -24,5 +24,7 @@ loop-i-preserved c =
           ∙ ap (λ z. pairs z left ++ drop z (take n s)) here
           ∙ c.loop-i.invariant.written;
       kept = drop-set-lt n s j b before ∙ c.loop-i.invariant.kept;
-      left = ap (λ z. z / 100) c.loop-i.invariant.left ∙ sym (high_step m k) ∙ ap (λ z. m / 100 ^ z) more;
+      left = ap (λ z. z / 100) c.loop-i.invariant.left
+          ∙ sym (high_step m k)
+          ∙ ap (λ z. m / 100 ^ z) more;
     }

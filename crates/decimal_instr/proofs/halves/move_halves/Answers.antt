@@ -9,7 +9,9 @@ use Rattle.decimal_instr.proofs.halves.move_halves.Goals as goal
 
 pub loop-k-preserved : goal.loop-k-preserved
 loop-k-preserved c =
-    let f = λ (k : ℕ). moved_byte c.args.op c.args.second.now (get_or c.args.first.now (length c.args.first.now - 1) 0 % 16) (length c.args.first.now - 1 - k) in
+    let old = c.args.first.now in
+    let n : ℕ = length old - 1 in
+    let f = λ (k : ℕ). moved_byte c.args.op c.args.second.now (get_or old n 0 % 16) (n - k) in
     let first = c.loop-k.first in
     let i = c.loop-k.k in
     let b = c.byte_of.result in
@@ -23,7 +25,11 @@ loop-k-preserved c =
 pub returns : goal.returns
 unfolding moved_halves
 returns c =
-    let f = λ (k : ℕ). moved_byte c.args.op c.args.second.now (get_or c.args.first.now (length c.args.first.now - 1) 0 % 16) (length c.args.first.now - 1 - k) in
+    let old = c.args.first.now in
+    let n : ℕ = length old - 1 in
+    let f = λ (k : ℕ). moved_byte c.args.op c.args.second.now (get_or old n 0 % 16) (n - k) in
     let end : c.loop-k.k ≡ length c.args.first.now = omega arith in
     let all : length c.loop-k.first ≤ c.loop-k.k = omega arith in
-    sym (take_all c.loop-k.k c.loop-k.first all) ∙ c.loop-k.invariant ∙ ap (λ n. map f (range_with_len 0 n)) end
+    sym (take_all c.loop-k.k c.loop-k.first all)
+    ∙ c.loop-k.invariant
+    ∙ ap (λ n. map f (range_with_len 0 n)) end

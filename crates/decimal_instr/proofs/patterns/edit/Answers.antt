@@ -8,6 +8,10 @@ pub returns-clause-used : goal.returns-clause-used
 returns-clause-used c other same =
     let s = c.args.source.now in
     let p = c.args.pattern.now in
-    let u : c.edit_all.result.used ≡ (state s p).used = ap (λ (y : Edited). y.used) c.edit_all.ensures.answer ∙ answer_used (state s p) in
-    let near : SameUpTo (state s p).used s other = λ k lt. same k (omega arith) in
-    (ap answer (state_same p s other near) ∙ sym c.edit_all.ensures.answer, pattern_same p s other near ∙ sym c.edit_all.ensures.pattern)
+    let edited = c.edit_all.ensures in
+    let u : c.edit_all.result.used ≡ (state s p).used =
+    ap (λ (y : Edited). y.used) edited.answer ∙ answer_used (state s p) in
+    let near : SameUpTo (state s p).used s other = λ k lt. same k (omega arith) in (
+      ap answer (state_same p s other near) ∙ sym edited.answer,
+      pattern_same p s other near ∙ sym edited.pattern,
+    )

@@ -1,5 +1,5 @@
 use Rattle.std.proofs.Common.{ℕ, ◌∷◌, [], ◌++◌, ◌+◌, ◌∙◌, ap, sym, refl, arith, get_or}
-use Rattle.esa_model.specs.Image.{bytes_from}
+use Rattle.deck_model.specs.Image.{bytes_from}
 use Rattle.deck_loader.proofs.Text.{bytes_from-push}
 use Rattle.deck_loader.proofs.bytes.constant_bytes.Goals as goal
 

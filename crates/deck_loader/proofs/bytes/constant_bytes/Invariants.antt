@@ -1,5 +1,5 @@
 use Rattle.std.proofs.Common.{◌≡◌, length, get_or}
-use Rattle.esa_model.specs.Image.{bytes_from}
+use Rattle.deck_model.specs.Image.{bytes_from}
 use Rattle.deck_loader.proofs.bytes.constant_bytes.Given as goal
 
 abbrev pub invariant-loop-i : goal.invariant-loop-i

@@ -3,8 +3,8 @@ use Rattle.std.proofs.lemmas.Bool.{cases_lt}
 use Rattle.std.proofs.lemmas.List.{take_more, get_or_default}
 use Rattle.std.specs.BTreeMap.{get}
 use Rattle.std.specs.Ordering.{nat_cmp}
-use Rattle.esa_model.specs.Image.{or_zero}
-use Rattle.esa_model.specs.declared.decks.Text.{Text}
+use Rattle.deck_model.specs.Image.{or_zero}
+use Rattle.deck_model.specs.declared.decks.Text.{Text}
 use Rattle.deck_loader.specs.Keys.{item_key}
 use Rattle.deck_loader.specs.Indexed.{last_end}
 use Rattle.deck_loader.proofs.Farthest.{last_end-push, max_low}

@@ -1,8 +1,8 @@
 use Rattle.std.proofs.Common.{◌≡◌, ◌≤◌, ℕ, ◌<◌, take, get_or}
 use Rattle.std.specs.BTreeMap.{get}
 use Rattle.std.specs.Ordering.{nat_cmp}
-use Rattle.esa_model.specs.Image.{or_zero}
-use Rattle.esa_model.specs.declared.decks.Text.{Text}
+use Rattle.deck_model.specs.Image.{or_zero}
+use Rattle.deck_model.specs.declared.decks.Text.{Text}
 use Rattle.deck_loader.specs.Indexed.{last_end}
 use Rattle.deck_loader.proofs.ends.text_ends.Given as goal
 

@@ -1,5 +1,5 @@
 use Rattle.std.proofs.Common.{◌≡◌, ℕ, ◌<◌, map, take, get_or}
-use Rattle.esa_model.specs.declared.decks.Item.{Item}
+use Rattle.deck_model.specs.declared.decks.Item.{Item}
 use Rattle.deck_loader.specs.ItemKeys.{id_key}
 use Rattle.deck_loader.proofs.keys.id_keys.Given as goal
 

@@ -1,5 +1,5 @@
 use Rattle.std.proofs.Common.{◌≡◌, ℕ, ◌<◌, map, take, get_or}
-use Rattle.esa_model.specs.declared.decks.Placed.{Placed}
+use Rattle.deck_model.specs.declared.decks.Placed.{Placed}
 use Rattle.deck_loader.specs.ItemKeys.{placed_key}
 use Rattle.deck_loader.proofs.keys.placed_keys.Given as goal
 

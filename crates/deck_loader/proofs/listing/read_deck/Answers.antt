@@ -1,5 +1,5 @@
 use Rattle.std.proofs.Common.{◌≡◌, ℕ, cond, ◌+◌, ◌-◌, ◌/◌, length, sym, ◌∙◌, ap, arith, Err, refl}
-use Rattle.esa_model.specs.Deck.{cards_from, listing, card_refusal, is_end}
+use Rattle.deck_model.specs.Deck.{cards_from, listing, card_refusal, is_end}
 use Rattle.deck_loader.specs.Listed.{listed, onto, with_card}
 use Rattle.deck_loader.proofs.Cards.{card_next, card_refused, card_refuses, onto_start, not_cards}
 use Rattle.deck_loader.proofs.listing.read_deck.Goals as goal

@@ -1,5 +1,5 @@
 use Rattle.std.proofs.Common.{◌≡◌, ◌≤◌, ◌+◌, ◌-◌, ◌*◌, length}
-use Rattle.esa_model.specs.Deck.{cards_from, listing}
+use Rattle.deck_model.specs.Deck.{cards_from, listing}
 use Rattle.deck_loader.specs.Listed.{listed, onto, WidthsFit}
 use Rattle.deck_loader.proofs.listing.read_deck.Given as goal
 

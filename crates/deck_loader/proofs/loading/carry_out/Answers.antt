@@ -1,6 +1,6 @@
 use Rattle.std.proofs.Common.{ℕ, List, length, ◌∙◌, ap, sym, subst}
-use Rattle.esa_model.specs.declared.decks.Text.{Text}
-use Rattle.esa_model.specs.declared.decks.Relocation.{Relocation}
+use Rattle.deck_model.specs.declared.decks.Text.{Text}
+use Rattle.deck_model.specs.declared.decks.Relocation.{Relocation}
 use Rattle.deck_loader.specs.Listed.{listed}
 use Rattle.deck_loader.specs.Written.{written, relocate, AreInside, ConstantsAreInside}
 use Rattle.deck_loader.proofs.Inside.{texts_inside, constants_inside}

@@ -1,7 +1,7 @@
 use Rattle.std.proofs.Common.{length, Ok, Result, refl, sym, subst}
 use Rattle.std.proofs.lemmas.Result.{err_from_is_err_and}
-use Rattle.esa_model.specs.Image.{Image}
-use Rattle.esa_model.specs.declared.decks.DeckRefusal.{DeckRefusal}
+use Rattle.deck_model.specs.Image.{Image}
+use Rattle.deck_model.specs.declared.decks.DeckRefusal.{DeckRefusal}
 use Rattle.deck_loader.specs.Listed.{listed}
 use Rattle.deck_loader.specs.Loaded.{Loads}
 use Rattle.deck_loader.proofs.Cards.{used_of}

@@ -1,7 +1,7 @@
 use Rattle.std.proofs.Common.{ℕ, ◌<◌, List, [], length, Ok, refl, ◌∙◌, ap, sym, arith}
 use Rattle.std.proofs.lemmas.Result.{err_from_is_err_and}
-use Rattle.esa_model.specs.Deck.{Listing}
-use Rattle.esa_model.specs.Image.{Image, image_of, image_byte, bytes_from, places, place, later_violation, first_doubled, same_id, same_name, item_number, or_zero, entry}
+use Rattle.deck_model.specs.Deck.{Listing}
+use Rattle.deck_model.specs.Image.{Image, image_of, image_byte, bytes_from, places, place, later_violation, first_doubled, same_id, same_name, item_number, or_zero, entry}
 use Rattle.deck_loader.specs.Listed.{listed}
 use Rattle.deck_loader.proofs.Inside.{entry_low}
 use Rattle.deck_loader.proofs.Whole.{refuses_by, places_are, later_err, later_ok}

@@ -1,5 +1,5 @@
 use Rattle.std.proofs.Common.{◌∙◌, ap, arith, map}
-use Rattle.esa_model.specs.Image.{section, or_nowhere}
+use Rattle.deck_model.specs.Image.{section, or_nowhere}
 use Rattle.deck_loader.specs.ItemKeys.{placed_key}
 use Rattle.deck_loader.specs.Keys.{first_at, at_place}
 use Rattle.deck_loader.proofs.Items.{section_found}

@@ -1,6 +1,6 @@
 use Rattle.std.proofs.Common.{◌≡◌, ◌≤◌, ◌<◌, ◌+◌, ◌*◌, ◌^◌, ◌++◌, All, length}
-use Rattle.esa_model.specs.declared.decks.Placed.{Placed}
-use Rattle.esa_model.specs.Image.{place}
+use Rattle.deck_model.specs.declared.decks.Placed.{Placed}
+use Rattle.deck_model.specs.Image.{place}
 use Rattle.deck_loader.proofs.place.place_sections.Given as goal
 
 abbrev pub invariant-loop-item : goal.invariant-loop-item

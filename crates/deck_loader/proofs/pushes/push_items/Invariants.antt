@@ -1,5 +1,5 @@
 use Rattle.std.proofs.Common.{◌≡◌, ◌≤◌, ◌+◌, ◌++◌, length}
-use Rattle.esa_model.specs.Deck.{esd_list}
+use Rattle.deck_model.specs.Deck.{esd_list}
 use Rattle.deck_loader.proofs.pushes.push_items.Given as goal
 
 abbrev pub invariant-loop-item : goal.invariant-loop-item

@@ -1,5 +1,5 @@
 use Rattle.std.proofs.Common.{◌≡◌, ◌++◌, length}
-use Rattle.esa_model.specs.Deck.{pointer_uses}
+use Rattle.deck_model.specs.Deck.{pointer_uses}
 use Rattle.deck_loader.proofs.pushes.push_pointer_uses.Given as goal
 
 abbrev pub invariant-loop-item : goal.invariant-loop-item

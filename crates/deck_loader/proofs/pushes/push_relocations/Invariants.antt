@@ -1,7 +1,7 @@
 use Rattle.std.proofs.Common.{◌≡◌, ◌++◌, true, length}
 use Rattle.std.specs.List.{list_all}
-use Rattle.esa_model.specs.CardWriting.{rld_item_fits}
-use Rattle.esa_model.specs.Deck.{rld_list}
+use Rattle.deck_model.specs.CardWriting.{rld_item_fits}
+use Rattle.deck_model.specs.Deck.{rld_list}
 use Rattle.deck_loader.specs.Listed.{WidthsFit}
 use Rattle.deck_loader.proofs.pushes.push_relocations.Given as goal
 

@@ -1,6 +1,6 @@
 use Rattle.std.proofs.Common.{◌≡◌, take}
 use Rattle.std.specs.List.{position_or_len}
-use Rattle.esa_model.specs.Script.{is_blank}
+use Rattle.run_model.specs.Script.{is_blank}
 use Rattle.fault_script.proofs.fields.piece_len.Given as goal
 
 abbrev pub invariant-loop-i : goal.invariant-loop-i

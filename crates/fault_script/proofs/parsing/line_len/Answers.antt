@@ -1,6 +1,6 @@
 use Rattle.std.proofs.Common.{arith, sym}
 use Rattle.std.proofs.lemmas.Bool.Decides.{nat_tests}
-use Rattle.esa_model.specs.Script.{is_line_feed}
+use Rattle.run_model.specs.Script.{is_line_feed}
 use Rattle.fault_script.proofs.Cuts.{first_at}
 use Rattle.fault_script.proofs.parsing.line_len.Goals as goal
 

@@ -1,11 +1,11 @@
 use Rattle.std.proofs.Common.{◌≡◌, ◌≤◌, ◌+◌, length}
-use Rattle.esa_model.specs.Script.{lines}
-use Rattle.esa_model.specs.Script.{strikes_from, script}
+use Rattle.run_model.specs.Script.{lines}
+use Rattle.run_model.specs.Script.{strikes_from, script}
 use Rattle.fault_script.proofs.parsing.parse.Given as goal
 
 abbrev pub invariant-loop-line : goal.invariant-loop-line
 invariant-loop-line l = record {
-  so : strikes_from (l.number + 1) l.strikes.items (lines l.rest) ≡ script l.text;
+  so : strikes_from (l.number + 1) l.gathered (lines l.rest) ≡ script l.text;
   numbered : l.number + length l.rest ≤ length l.text;
 }
 

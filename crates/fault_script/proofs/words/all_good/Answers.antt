@@ -2,7 +2,7 @@ use Rattle.std.proofs.Common.{◌≡◌, ℕ, false, nat_eq, sym, ap, ◌∙◌,
 use Rattle.std.specs.Prelude.{unwrap_or}
 use Rattle.std.specs.HashMap as hash
 use Rattle.std.proofs.lemmas.List.{take_all}
-use Rattle.esa_model.specs.Premise.{strikes_word}
+use Rattle.run_model.specs.Premise.{strikes_word}
 use Rattle.fault_script.specs.Places.{place}
 use Rattle.std.specs.List.{count_by}
 use Rattle.fault_script.proofs.Threes.{counts_more, more_at, few_at, too_many}

@@ -1,5 +1,5 @@
 use Rattle.std.proofs.Common.{subst}
-use Rattle.esa_model.specs.Image.{image}
+use Rattle.deck_model.specs.Image.{image}
 use Rattle.deck_loader.specs.Listed.{Refuses}
 use Rattle.g5_run.proofs.Loads.{zero_all, size_of}
 use Rattle.g5_run.proofs.loading.load_into.Goals as goal

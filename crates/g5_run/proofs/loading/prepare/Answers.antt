@@ -1,6 +1,6 @@
 use Rattle.std.proofs.Common.{◌≡◌, sym, subst, refl, Ok}
 use Rattle.std.proofs.lemmas.Result.{err_from_is_err_and}
-use Rattle.esa_model.specs.Image.{image, Image}
+use Rattle.deck_model.specs.Image.{image, Image}
 use Rattle.esa_model.specs.Machine.{start}
 use Rattle.g5_run.specs.Words.{names_of}
 use Rattle.g5_run.specs.Inputs.{bytes_of}

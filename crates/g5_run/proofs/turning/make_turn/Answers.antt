@@ -1,22 +1,13 @@
-use Rattle.std.proofs.Common.{◌≡◌, ◌+◌, ◌∙◌, ℕ, Option, sym, subst, None, Some, Ok, Err}
-use Rattle.esa_model.specs.Texts.{turned, counted}
-use Rattle.g5_machine.specs.Turns.{Gives, StandsFor}
+use Rattle.std.proofs.Common.{◌+◌, ℕ, sym, subst, Ok, Err}
+use Rattle.run_model.specs.PlainRuns.{told_at}
+use Rattle.run_model.specs.Texts.{turn_pieces}
+use Rattle.g5_machine.specs.Turns.{Gives}
 use Rattle.g5_outside.specs.declared.outside.Failed.{Failed}
 use Rattle.g5_writing.specs.Outputs.{Puts}
 use Rattle.g5_writing.proofs.Putting.{puts_ok_as, puts_err_as}
-use Rattle.g5_run.specs.RunTexts.{built_pieces}
-use Rattle.g5_run.proofs.CommitPieces.{commit_made, commit_stands, commit_counted, idle_made, idle_stands, idle_counted, not_made}
+use Rattle.g5_run.specs.Making.{StandsAfter}
+use Rattle.g5_run.proofs.CommitPieces.{commit_made, commit_stands, idle_made, idle_stands}
 use Rattle.g5_run.proofs.turning.make_turn.Goals as goal
-
-pub returns-in-NotYet-clause-turn : goal.returns-in-NotYet-clause-turn
-returns-in-NotYet-clause-turn g c = λ m made is stands.
-    let after = c.turn-turn.new.self in
-    let turn = c.turn-turn.result in
-    let k = subst (λ out. Gives m made 0 after turn out) c.in-NotYet.is (c.turn-turn.ensures.turn m made stands) in
-    record {
-      written = not_made {E = Failed} c.args.files m made after turn (g.F.Shelf.seen c.args.shelf.now) (g.O.Sink.seen c.args.out.now) None k;
-      outcome = (k.built, k.stands);
-    }
 
 pub returns-in-Idle-clause-turn : goal.returns-in-Idle-clause-turn
 returns-in-Idle-clause-turn g c = λ m made is stands.
@@ -24,8 +15,8 @@ returns-in-Idle-clause-turn g c = λ m made is stands.
     let turn = c.turn-turn.result in
     let k = subst (λ out. Gives m made 0 after turn out) c.in-Idle.is (c.turn-turn.ensures.turn m made stands) in
     record {
-      written = idle_made {E = Failed} c.args.files m made after turn (g.F.Shelf.seen c.args.shelf.now) (g.O.Sink.seen c.args.out.now) (Some c.args.commits) k;
-      outcome = (k.built, sym is ∙ idle_counted m made after turn k, subst (λ n. StandsFor after (turned m 0) (record { turns = made.turns + 1; commits = n })) is (idle_stands m made after turn k));
+      written = idle_made {E = Failed} c.args.files m made after turn (g.F.Shelf.seen c.args.shelf.now) (g.O.Sink.seen c.args.out.now) c.args.commits k;
+      outcome = subst (λ n. StandsAfter m made after n) is (idle_stands m made after turn k);
     }
 
 pub returns-in-Err-clause-turn : goal.returns-in-Err-clause-turn
@@ -37,9 +28,11 @@ returns-in-Err-clause-turn g c = λ m made is stands.
     let after = c.turn-turn.new.self in
     let turn = c.turn-turn.result in
     let k = subst (λ out. Gives m made 0 after turn out) c.in-Committed.is (c.turn-turn.ensures.turn m made stands) in
-    let written = puts_err_as c.args.files (built_pieces c.args.commits m) a b o p c.in-Err.failed c.in-Err.failed (commit_made c.args.files c.args.commits m made after turn a b o p _ k c.in-Err.ensures) in
+    let pieces = turn_pieces c.args.commits (told_at m 0) in
+    let written = puts_err_as c.args.files pieces a b o p c.in-Err.failed c.in-Err.failed
+    (commit_made c.args.files c.args.commits m made after turn a b o p _ k c.in-Err.ensures) in
     record {
-      written = subst (λ n. Puts {T = Option ℕ} {E = Failed} c.args.files (built_pieces n m) a b o p (Err c.in-Err.failed)) (sym is) written;
+      written = subst (λ n. Puts {T = ℕ} {E = Failed} c.args.files (turn_pieces n (told_at m 0)) a b o p (Err c.in-Err.failed)) (sym is) written;
       outcome = tt;
     }
 
@@ -52,12 +45,10 @@ returns-in-Ok-clause-turn g c = λ m made is stands.
     let after = c.turn-turn.new.self in
     let turn = c.turn-turn.result in
     let k = subst (λ out. Gives m made 0 after turn out) c.in-Committed.is (c.turn-turn.ensures.turn m made stands) in
-    let written = puts_ok_as c.args.files (built_pieces c.args.commits m) a b o p c.in-Ok.field-0 (Some (c.args.commits + 1)) (commit_made c.args.files c.args.commits m made after turn a b o p _ k c.in-Ok.ensures) in
+    let pieces = turn_pieces c.args.commits (told_at m 0) in
+    let written = puts_ok_as c.args.files pieces a b o p c.in-Ok.field-0 (c.args.commits + 1)
+    (commit_made c.args.files c.args.commits m made after turn a b o p _ k c.in-Ok.ensures) in
     record {
-      written = subst (λ n. Puts {T = Option ℕ} {E = Failed} c.args.files (built_pieces n m) a b o p (Ok (Some (c.args.commits + 1)))) (sym is) written;
-      outcome = (
-        k.built,
-        subst (λ n. n + 1 ≡ counted made.commits m 0) is (commit_counted m made after turn k),
-        subst (λ n. StandsFor after (turned m 0) (record { turns = made.turns + 1; commits = n + 1 })) is (commit_stands m made after turn k),
-      );
+      written = subst (λ n. Puts {T = ℕ} {E = Failed} c.args.files (turn_pieces n (told_at m 0)) a b o p (Ok (c.args.commits + 1))) (sym is) written;
+      outcome = subst (λ n. StandsAfter m made after (n + 1)) is (commit_stands m made after turn k);
     }

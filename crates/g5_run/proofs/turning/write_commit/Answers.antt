@@ -1,6 +1,6 @@
 use Rattle.std.proofs.Common.{◌∷◌, [], refl}
-use Rattle.esa_model.specs.declared.outputs.Place.TheVariants.{Trace, Out}
-use Rattle.esa_model.specs.Pieces.{piece}
+use Rattle.run_model.specs.declared.outputs.Place.TheVariants.{Trace, Out}
+use Rattle.run_model.specs.Pieces.{piece}
 use Rattle.std.proofs.lemmas.Result.{err_from_is_err_and}
 use Rattle.g5_writing.proofs.Putting.{puts_then_as, puts_stop_as}
 use Rattle.g5_run.proofs.turning.write_commit.Goals as goal

@@ -1,4 +1,4 @@
-use Rattle.esa_model.specs.declared.outputs.Place.TheVariants.{Log, Trace, Out}
+use Rattle.run_model.specs.declared.outputs.Place.TheVariants.{Log, Trace, Out}
 use Rattle.g5_writing.proofs.Putting.{grew_log, grew_trace, grew_out, put_one, on_shelf, on_sink}
 use Rattle.g5_writing.proofs.outputs.put.Goals as goal
 

@@ -3,4 +3,6 @@ use Rattle.general_move.proofs.Merging.{merged_is}
 use Rattle.general_move.proofs.bytes.merge.Goals as goal
 
 pub returns : goal.returns
-returns c = merged_is c.args.op c.args.first.now c.args.second.now c.loop-i.first c.requires.same (omega arith) (λ k h. c.loop-i.invariant.done k (omega arith))
+returns c =
+    merged_is c.args.op _ _ c.loop-i.first c.requires.same (omega arith)
+    (λ k h. c.loop-i.invariant.done k (omega arith))

@@ -1,5 +1,5 @@
 use Rattle.std.proofs.Common.{sym, ◌∙◌, ap, ◌+◌, ◌^◌}
-use Rattle.esa_model.specs.Code.{value_of}
+use Rattle.run_model.specs.Code.{value_of}
 use Rattle.runit_ecc.proofs.Room.{gathered_is, gathered_fits}
 use Rattle.runit_ecc.proofs.Segments.{value_room}
 use Rattle.runit_ecc.proofs.places.gathered.Goals as goal

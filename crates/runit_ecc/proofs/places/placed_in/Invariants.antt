@@ -1,5 +1,5 @@
 use Rattle.std.proofs.Common.{◌≡◌, ◌^◌}
-use Rattle.esa_model.specs.Code.{placed}
+use Rattle.run_model.specs.Code.{placed}
 use Rattle.runit_ecc.proofs.places.placed_in.Given as goal
 
 abbrev pub invariant-loop-j : goal.invariant-loop-j

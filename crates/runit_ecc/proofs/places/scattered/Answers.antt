@@ -1,5 +1,5 @@
 use Rattle.std.proofs.Common.{sym, ◌∙◌, ap, ◌+◌, ◌^◌}
-use Rattle.esa_model.specs.Code.{placed}
+use Rattle.run_model.specs.Code.{placed}
 use Rattle.runit_ecc.proofs.Room.{scattered_is, scattered_fits}
 use Rattle.runit_ecc.proofs.Segments.{placed_room}
 use Rattle.runit_ecc.proofs.places.scattered.Goals as goal

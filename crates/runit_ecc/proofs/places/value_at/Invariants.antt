@@ -1,5 +1,5 @@
 use Rattle.std.proofs.Common.{◌≡◌, ◌^◌}
-use Rattle.esa_model.specs.Code.{value_of}
+use Rattle.run_model.specs.Code.{value_of}
 use Rattle.runit_ecc.proofs.places.value_at.Given as goal
 
 abbrev pub invariant-loop-j : goal.invariant-loop-j

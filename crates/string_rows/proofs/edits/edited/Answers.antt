@@ -6,7 +6,8 @@ use Rattle.string_rows.proofs.edits.edited.Goals as goal
 
 pub returns-clause-code : goal.returns-clause-code
 returns-clause-code c =
-    subst (λ (d : Edited). d.cc < 5) (sym c.edit.ensures.answer) (answer_code (state c.args.source.now c.args.pattern.now))
+    subst (λ (d : Edited). d.cc < 5) (sym c.edit.ensures.answer)
+    (answer_code (state c.args.source.now c.args.pattern.now))
 
 pub returns-clause-used : goal.returns-clause-used
 returns-clause-used c =

@@ -4,4 +4,6 @@ use Rattle.string_rows.proofs.Codes.{shift_code}
 use Rattle.string_rows.proofs.fields.shifted.Goals as goal
 
 pub returns-clause-code : goal.returns-clause-code
-returns-clause-code c = subst (λ (d : Decimal). d.value.cc < 5) c.srp.ensures (shift_code c.args.first.now c.args.by c.args.round)
+returns-clause-code c =
+    subst (λ (d : Decimal). d.value.cc < 5) c.srp.ensures
+    (shift_code c.args.first.now c.args.by c.args.round)

@@ -5,7 +5,11 @@ use Rattle.string_rows.proofs.Units.{move_few, move_code}
 use Rattle.string_rows.proofs.long.unit_moved.Goals as goal
 
 pub returns-clause-few : goal.returns-clause-few
-returns-clause-few c = subst (λ (u : MoveUnit). u.copied + u.padded ≤ 256) (sym c.move_unit.ensures) (move_few c.args.m.now)
+returns-clause-few c =
+    subst (λ (u : MoveUnit). u.copied + u.padded ≤ 256) (sym c.move_unit.ensures)
+    (move_few c.args.m.now)
 
 pub returns-clause-code : goal.returns-clause-code
-returns-clause-code c = subst (λ (u : MoveUnit). IfSome u.cc (λ k. k < 5)) (sym c.move_unit.ensures) (move_code c.args.m.now)
+returns-clause-code c =
+    subst (λ (u : MoveUnit). IfSome u.cc (λ k. k < 5)) (sym c.move_unit.ensures)
+    (move_code c.args.m.now)

@@ -1,14 +1,8 @@
 -- No more bytes are stored than the operand has.
-use Rattle.std.proofs.Common.{◌+◌, refl, arith, inr}
-use Rattle.std.proofs.lemmas.List.FromFn.{length-range_with_len}
+use Rattle.std.proofs.Common.{arith}
+use Rattle.string_rows.proofs.Covered.{covered}
 use Rattle.string_rows.proofs.moves.translate_effect.Goals as goal
 
 pub returns-clause-covers : goal.returns-clause-covers
 returns-clause-covers g c =
-    let len = length-range_with_len 0 (c.args.i.now.decoded.len + 1) in
-    record {
-      short = omega (arith, len, c.stored.ensures.short, c.bytes_translated-out.ensures.len);
-      store = λ h. refl;
-      one = inr c.stored.ensures.console;
-      kind = c.stored.ensures.kind;
-    }
+    covered _ _ _ _ _ _ (omega (arith, c.stored.ensures.short, c.bytes_translated-out.ensures.len)) c.stored.ensures.console

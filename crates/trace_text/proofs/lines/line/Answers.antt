@@ -1,5 +1,5 @@
 use Rattle.std.proofs.Common.{arith, ap, length, length-append}
-use Rattle.esa_model.specs.Trace.{changes_text}
+use Rattle.run_model.specs.Trace.{changes_text}
 use Rattle.trace_text.proofs.Stretches.{length_changes}
 use Rattle.trace_text.proofs.lines.line.Goals as goal
 

@@ -1,5 +1,5 @@
 use Rattle.std.proofs.Common.{arith, ap, length, sym}
-use Rattle.esa_model.specs.Schedule.{words, runs_from, schedule, turns_of}
+use Rattle.run_model.specs.Schedule.{words, runs_from, schedule, turns_of}
 use Rattle.turn_schedule.proofs.parsing.parse.Goals as goal
 
 pub loop-word-init : goal.loop-word-init
@@ -11,6 +11,6 @@ loop-word-init c =
       so = ap (λ f. runs_from c.args.cpus 1 f (words c.args.text.now)) none;
       together = sym (ap turns_of none);
       few = omega arith;
-      inside = λ k d lt. absurd (omega arith);
+      fits = λ k d lt. absurd (omega arith);
       numbered = omega arith;
     }

@@ -9,8 +9,7 @@ use Rattle.packet_law.specs.Sound.{IsSound}
 use Rattle.esa_model.specs.Unit.{Done}
 use Rattle.esa_model.specs.declared.machine.Registers.{Registers}
 use Rattle.esa_model.specs.Line.{Side}
-use Rattle.esa_model.specs.Bus.{signals_of}
-use Rattle.esa_model.specs.Event.{enabled}
+use Rattle.twin_units.specs.Units.{enabled_beside}
 use Rattle.twin_units.proofs.computing.event_told.Goals as goal
 
 pub returns-in-0-clause-done : goal.returns-in-0-clause-done
@@ -27,7 +26,7 @@ returns-in-1-clause-done g c = λ told busy.
     let s : List ℕ = g.V.View.bytes c.args.view.now in
     let number = subst (λ (bs : List ℕ). slice_index bs 0 ≡ 1) told c.in-1.is in
     let r : Registers = c.args.r.now in
-    let seen = ap (λ (side : Side). enabled r.psw (slice_index r.control 0) (signals_of side.bus c.args.cpu.0)) c.side.view_is in
+    let seen = ap (λ (side : Side). enabled_beside r c.args.cpu.0 side) c.side.view_is in
     c.external.ensures ∙ (ap (requested r) (c.enabled.ensures ∙ seen) ∙ sym (external_told c.args.r.now c.args.cpu.0 s c.args.side.now number))
 
 pub returns-in-2-clause-done : goal.returns-in-2-clause-done

@@ -17,6 +17,7 @@ returns-clause-applied c = λ model made of.
       storage = c.apply-written.ensures.storage;
       keys = c.apply-written.ensures.keys;
       bus = c.apply-written.ensures.bus;
+      clock = c.apply-written.ensures.clock;
       console = c.apply-written.ensures.console;
       counts = c.add_commit.ensures.counts ∙ rw (was_read, was_written) refl;
       counted = c.add_commit.ensures.counted;

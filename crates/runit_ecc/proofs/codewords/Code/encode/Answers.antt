@@ -1,5 +1,5 @@
 use Rattle.std.proofs.Common.{sym, ◌∙◌, ap, subst, ◌+◌, ◌<◌, ◌^◌}
-use Rattle.esa_model.specs.Code.{IsCodeword, value_of}
+use Rattle.run_model.specs.Code.{IsCodeword, value_of}
 use Rattle.runit_ecc.proofs.Encoding.{encoded_codeword, encoded_value}
 use Rattle.runit_ecc.proofs.codewords.Code.encode.Goals as goal
 

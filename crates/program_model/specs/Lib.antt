@@ -1,0 +1,15 @@
+pub mod Addresses
+pub mod Given
+pub mod Commands
+pub mod WorkedWords
+pub mod Inputs
+pub mod RefusalTexts
+pub mod Statuses
+pub mod Conversions
+pub mod Draws
+pub mod GeneratedDeck
+pub mod Generator
+pub mod Debugger
+pub mod WorkedAnswers
+pub mod Session
+pub mod Accepted

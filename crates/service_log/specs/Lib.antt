@@ -1,0 +1,4 @@
+pub mod Headings
+pub mod Lines
+pub mod Migrating
+pub mod Parts

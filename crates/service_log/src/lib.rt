@@ -1,0 +1,17 @@
+//! The service log: its lines written and read, and logs of version 1 brought to version 2.
+#![tactic(auto)]
+
+mod ends;
+mod fields;
+mod laws;
+mod migrating;
+mod reading;
+#[cfg(test)]
+mod tests;
+mod writing;
+
+pub use laws::{read_is_written, written_is_read};
+pub use migrating::migrate;
+pub use reading::read;
+pub use run_model::logs::{Config, Entry, LogRefusal, MigrateRefusal, What};
+pub use writing::{head, tail, write};

@@ -1,0 +1,5 @@
+pub mod Briefs
+pub mod Lands
+pub mod Masked
+pub mod Masks
+pub mod Smalls

@@ -1,0 +1,5 @@
+pub mod First
+pub mod Puts
+pub mod Taken
+pub mod Lowest
+pub mod Apart
