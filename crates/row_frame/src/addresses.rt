@@ -20,7 +20,7 @@ pub fn after(r: &Registers, len: u8) -> Registers
 }
 
 /// The registers with a condition code, or the one that they have where it stays.
-pub(crate) fn with_code(r: Registers, code: u8) -> Registers
+pub fn with_code(r: Registers, code: u8) -> Registers
     requires { code < 5 }
     ensures { result ≡ coded r code }
 {

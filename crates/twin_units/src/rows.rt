@@ -5,13 +5,13 @@ ghost use Rattle.row_frame.specs.Made.{Covers, Fits, IsInRange, ReadsConsole, Se
 ghost use Rattle.twin_units.specs.Units.{effect_by, is_in_order, operands_by, IsKnown};
 
 use abs_storage::View;
+use byte_rows::{bytes, decimals};
 use esa_model::kinds::Kind;
 use esa_model::machine::{CpuNo, Registers};
-use general_rows::{branches, stores, words};
 use operand_access::Operands;
 use result_packet::Side;
 use row_frame::{Effect, Instruction};
-use string_rows::{bytes, decimals};
+use word_rows::{branches, stores, words};
 
 /// Whether register numbers, alignment and the like are in order.
 #[tactic(auto, unfolding(esa_model::specs::Rows::All::line, esa_model::specs::Rows::All::is_of_kind))]
