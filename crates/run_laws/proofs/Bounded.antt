@@ -1,7 +1,7 @@
 -- The bound on wrong positions, in every run: those of a word are at most as many as the lines that
 -- struck it in the block of its core's last begun attempt.
 use Rattle.std.proofs.Common.{◌≡◌, ◌≢◌, ◌⊎◌, ℕ, zero, suc, ◌+◌, ◌-◌, ◌%◌, ◌<◌, ◌≤◌, Bool, true, false, List, [], ◌∷◌, ◌++◌, Option, Some, None, refl, sym, ap, ◌∙◌, subst, arith, if◌then◌else◌, inl, inr, eqb-true, bit_xor}
-use Rattle.std.specs.Prelude.{◌==◌, ◌&&◌, nat_lt}
+use Rattle.std.specs.Prelude.{⊤, ◌==◌, ◌&&◌, nat_lt}
 use Rattle.std.proofs.lemmas.Bool.{cases_eq, eqb-false, true≢false}
 use Rattle.esa_model.specs.Machine.{Machine, at}
 use Rattle.run_model.specs.declared.faults.Cause.{Cause}
@@ -16,7 +16,7 @@ use Rattle.run_model.specs.declared.schedules.RunKind.{RunKind}
 use Rattle.run_model.specs.declared.schedules.RunKind.TheVariants.{Turns, Key, Return}
 use Rattle.run_model.specs.Checkpoint.{width}
 use Rattle.run_model.specs.Code.{ones, highest}
-use Rattle.run_model.specs.Cores.{lowest}
+use Rattle.run_model.specs.Cores.{lowest, is_lost}
 use Rattle.run_model.specs.Fate.{Fate, Sight, sight, Bits, bits, read, mend, strike, written, attempted, scrub_bits, spare_bits, transfer_bits, bits_by, bits_of, Sound}
 use Rattle.run_model.specs.Reading.{Reading, mark, on_mark, reading, read_words, is_fixed, is_before, mended, BoundAt}
 use Rattle.run_model.specs.Runs.{Model, turned, run_after, first_model}
@@ -25,8 +25,15 @@ use Rattle.run_laws.proofs.At.{at_by, at_same, at_other}
 use Rattle.run_laws.proofs.Ones.{ones-zero, ones-xor-le}
 use Rattle.run_laws.proofs.Struck.{struck_first, struck_step}
 
+-- the cores that are asked for are within the bound
+abbrev pub BoundedOn : (ℕ → Type 0) → List Strike → Bits → Type 0
+BoundedOn P ls b = (c : ℕ) → P c → BoundAt ls c (b.begun c) (b.wrong c)
+
+abbrev every : ℕ → Type 0
+every c = ⊤
+
 abbrev pub Bounded : List Strike → Bits → Type 0
-Bounded ls b = (c : ℕ) → BoundAt ls c (b.begun c) (b.wrong c)
+Bounded ls b = BoundedOn every ls b
 
 -- ---- a reading that loses no word
 
@@ -101,26 +108,26 @@ some_right ls c n wrong b h = record {
       ones-zero (width w) in omega (arith, z)) (h.few some w lt);
 }
 
-all_written : (ls : List Strike) (c n : ℕ) → BoundAt ls c n (λ w. 0)
+pub all_written : (ls : List Strike) (c n : ℕ) → BoundAt ls c n (λ w. 0)
 all_written ls c n = record {
   fresh = λ z w lt. refl;
   few = λ some w lt. let z = ones-zero (width w) in omega (arith, z);
 }
 
 -- the words of one core are changed
-one_core : (ls : List Strike) (begun : ℕ → ℕ) (wrong : ℕ → ℕ → ℕ) (k : ℕ) (e : ℕ → ℕ)
-    → ((c : ℕ) → BoundAt ls c (begun c) (wrong c)) → BoundAt ls k (begun k) e → (c : ℕ)
-    → BoundAt ls c (begun c) (at wrong k e c)
-one_core ls begun wrong k e h new c =
+one_core : (P : ℕ → Type 0) (ls : List Strike) (begun : ℕ → ℕ) (wrong : ℕ → ℕ → ℕ) (k : ℕ)
+    (e : ℕ → ℕ) → ((c : ℕ) → P c → BoundAt ls c (begun c) (wrong c)) → BoundAt ls k (begun k) e
+    → (c : ℕ) → P c → BoundAt ls c (begun c) (at wrong k e c)
+one_core P ls begun wrong k e h new c asked =
     at_by (λ x. BoundAt ls c (begun c) x) wrong k e c
-    (λ is. subst (λ z. BoundAt ls z (begun z) e) (sym is) new) (λ ne. h c)
+    (λ is. subst (λ z. BoundAt ls z (begun z) e) (sym is) new) (λ ne. h c asked)
 
-mends : (ls : List Strike) (s : Fate) (k : ℕ) (o : Option ℕ) → Bounded ls (bits s)
-    → Bounded ls (mend s k o)
-mends ls s k o h =
-    one_core ls s.begun s.wrong k (mended (s.wrong k) o) h
+mends : (P : ℕ → Type 0) (ls : List Strike) (s : Fate) (k : ℕ) (o : Option ℕ) → P k
+    → BoundedOn P ls (bits s) → BoundedOn P ls (mend s k o)
+mends P ls s k o own h =
+    one_core P ls s.begun s.wrong k (mended (s.wrong k) o) h
     (some_right ls k (s.begun k) (s.wrong k)
-    (λ w. is_fixed (mark w (s.wrong k w)) && is_before w o) (h k))
+    (λ w. is_fixed (mark w (s.wrong k w)) && is_before w o) (h k own))
 
 -- an attempt begins: in the first of a block all words were right before
 struck_more : (ls : List Strike) (k n w e : ℕ) → (n % 16 ≡ 0) ⊎ (n % 16 ≢ 0)
@@ -151,10 +158,10 @@ begins ls k n e right h = record {
       (struck_more ls k n w (e w) (cases_eq (n % 16) 0) (λ z. right z w lt) (λ p. h.few p w lt));
 }
 
-strikes : (ls : List Strike) (k n : ℕ) (b : Bits) → b.begun k ≡ n
-    → (n % 16 ≡ 0 → (w : ℕ) → w < 40 → ones (width w) (b.wrong k w) ≡ 0) → Bounded ls b
-    → Bounded ls (strike ls k n b)
-strikes ls k n b is right h c = elim (cases_eq c k) [
+strikes : (P : ℕ → Type 0) (ls : List Strike) (k n : ℕ) (b : Bits) → P k → b.begun k ≡ n
+    → (n % 16 ≡ 0 → (w : ℕ) → w < 40 → ones (width w) (b.wrong k w) ≡ 0) → BoundedOn P ls b
+    → BoundedOn P ls (strike ls k n b)
+strikes P ls k n b own is right h c asked = elim (cases_eq c k) [
   | inl e ↦
       let begun : n + 1 ≡ at b.begun k (n + 1) c =
       sym (ap (at b.begun k (n + 1)) e ∙ at_same b.begun k (n + 1)) in
@@ -163,7 +170,7 @@ strikes ls k n b is right h c = elim (cases_eq c k) [
       sym (ap (at b.wrong k (λ w. bit_xor (b.wrong k w) (flips ls k n w))) e
       ∙ at_same b.wrong k (λ w. bit_xor (b.wrong k w) (flips ls k n w))) in
       let new : BoundAt ls k (n + 1) (λ w. bit_xor (b.wrong k w) (flips ls k n w)) =
-      begins ls k n (b.wrong k) right (subst (λ m. BoundAt ls k m (b.wrong k)) is (h k)) in
+      begins ls k n (b.wrong k) right (subst (λ m. BoundAt ls k m (b.wrong k)) is (h k own)) in
       subst (λ z.
       BoundAt ls z (at b.begun k (n + 1) c)
       (at b.wrong k (λ w. bit_xor (b.wrong k w) (flips ls k n w)) c)) (sym e)
@@ -174,71 +181,78 @@ strikes ls k n b is right h c = elim (cases_eq c k) [
       let words : b.wrong c ≡ at b.wrong k (λ w. bit_xor (b.wrong k w) (flips ls k n w)) c =
       sym (at_other b.wrong k (λ w. bit_xor (b.wrong k w) (flips ls k n w)) c ne) in
       subst (λ m. BoundAt ls c m (at b.wrong k (λ w. bit_xor (b.wrong k w) (flips ls k n w)) c))
-      begun (subst (λ x. BoundAt ls c (b.begun c) x) words (h c))
+      begun (subst (λ x. BoundAt ls c (b.begun c) x) words (h c asked))
 ]
 
-writes : (ls : List Strike) (g : Sight) (k : ℕ) (o : Option Cause) (b : Bits) → Bounded ls b
-    → Bounded ls (written g k o b)
-writes ls g k None b h =
-    one_core ls b.begun b.wrong k (λ w. if g.changes w then 0 else b.wrong k w) h
-    (some_right ls k (b.begun k) (b.wrong k) g.changes (h k))
-writes ls g k (Some why) b h = h
+writes : (P : ℕ → Type 0) (ls : List Strike) (g : Sight) (k : ℕ) (o : Option Cause) (b : Bits)
+    → P k → BoundedOn P ls b → BoundedOn P ls (written g k o b)
+writes P ls g k None b own h =
+    one_core P ls b.begun b.wrong k (λ w. if g.changes w then 0 else b.wrong k w) h
+    (some_right ls k (b.begun k) (b.wrong k) g.changes (h k own))
+writes P ls g k (Some why) b own h = h
 
-attempts : (ls : List Strike) (g : Sight) (k n : ℕ) (b : Bits) → b.begun k ≡ n
-    → (n % 16 ≡ 0 → (w : ℕ) → w < 40 → ones (width w) (b.wrong k w) ≡ 0) → Bounded ls b
-    → Bounded ls (attempted ls g k n b)
-attempts ls g k n b is right h =
-    writes ls g k (cause ls k n) (strike ls k n b) (strikes ls k n b is right h)
+attempts : (P : ℕ → Type 0) (ls : List Strike) (g : Sight) (k n : ℕ) (b : Bits) → P k
+    → b.begun k ≡ n → (n % 16 ≡ 0 → (w : ℕ) → w < 40 → ones (width w) (b.wrong k w) ≡ 0)
+    → BoundedOn P ls b → BoundedOn P ls (attempted ls g k n b)
+attempts P ls g k n b own is right h =
+    writes P ls g k (cause ls k n) (strike ls k n b) own (strikes P ls k n b own is right h)
 
-scrubs : (ls : List Strike) (g : Sight) (s : Fate) (k : ℕ) (o : Option ℕ) → (read s k).lost ≡ o
-    → Bounded ls (bits s) → Bounded ls (scrub_bits ls g s k o)
-scrubs ls g s k None none h =
+scrubs : (P : ℕ → Type 0) (ls : List Strike) (g : Sight) (s : Fate) (k : ℕ) (o : Option ℕ)
+    → P k → (read s k).lost ≡ o → BoundedOn P ls (bits s)
+    → BoundedOn P ls (scrub_bits ls g s k o)
+scrubs P ls g s k None own none h =
     let right : (w : ℕ) → w < 40
     → ones (width w) (at s.wrong k (mended (s.wrong k) None) k w) ≡ 0 =
     λ w lt. subst (λ x. ones (width w) (x w) ≡ 0)
     (sym (at_same s.wrong k (mended (s.wrong k) None)))
     (all_right (s.wrong k) none w lt) in
-    attempts ls g k (s.begun k) (mend s k None) refl (λ z. right) (mends ls s k None h)
-scrubs ls g s k (Some w) lost h = mends ls s k (Some w) h
+    attempts P ls g k (s.begun k) (mend s k None) own refl (λ z. right) (mends P ls s k None own h)
+scrubs P ls g s k (Some w) own lost h = mends P ls s k (Some w) own h
 
-runs_by : (ls : List Strike) (g : Sight) (s : Fate) (k : ℕ) (a b : Bool)
-    → (s.begun k % 16 == 0) ≡ b → Bounded ls (bits s)
-    → Bounded ls
+runs_by : (P : ℕ → Type 0) (ls : List Strike) (g : Sight) (s : Fate) (k : ℕ) (a b : Bool) → P k
+    → (s.begun k % 16 == 0) ≡ b → BoundedOn P ls (bits s)
+    → BoundedOn P ls
     (if a then bits s
     else (if b then scrub_bits ls g s k (read s k).lost
     else attempted ls g k (s.begun k) (bits s)))
-runs_by ls g s k true b is h = h
-runs_by ls g s k false true is h = scrubs ls g s k (read s k).lost refl h
-runs_by ls g s k false false is h =
-    attempts ls g k (s.begun k) (bits s) refl (λ z. absurd (eqb-false (s.begun k % 16) 0 is z)) h
+runs_by P ls g s k true b own is h = h
+runs_by P ls g s k false true own is h = scrubs P ls g s k (read s k).lost own refl h
+runs_by P ls g s k false false own is h =
+    attempts P ls g k (s.begun k) (bits s) own refl
+    (λ z. absurd (eqb-false (s.begun k % 16) 0 is z)) h
 
-hands : (ls : List Strike) (s : Fate) (k : ℕ) (o : Option ℕ) → Bounded ls (bits s)
-    → Bounded ls (spare_bits s k o)
-hands ls s k None h = one_core ls s.begun s.wrong k (λ w. 0) h (all_written ls k (s.begun k))
-hands ls s k (Some w) h = h
+hands : (P : ℕ → Type 0) (ls : List Strike) (s : Fate) (k : ℕ) (o : Option ℕ)
+    → BoundedOn P ls (bits s) → BoundedOn P ls (spare_bits s k o)
+hands P ls s k None h = one_core P ls s.begun s.wrong k (λ w. 0) h (all_written ls k (s.begun k))
+hands P ls s k (Some w) h = h
 
-transfers : (ls : List Strike) (s : Fate) (c : ℕ) (o : Option ℕ) → Bounded ls (bits s)
-    → Bounded ls (transfer_bits s c o)
-transfers ls s c None h = h
-transfers ls s c (Some k) h = hands ls s k (read s c).lost h
+transfers : (P : ℕ → Type 0) (ls : List Strike) (s : Fate) (c : ℕ) (o : Option ℕ)
+    → BoundedOn P ls (bits s) → BoundedOn P ls (transfer_bits s c o)
+transfers P ls s c None h = h
+transfers P ls s c (Some k) h = hands P ls s k (read s c).lost h
 
-recovers_by : (ls : List Strike) (s : Fate) (c : ℕ) (b : Bool) → Bounded ls (bits s)
-    → Bounded ls
+recovers_by : (P : ℕ → Type 0) (ls : List Strike) (s : Fate) (c : ℕ) (b : Bool) → P c
+    → BoundedOn P ls (bits s)
+    → BoundedOn P ls
     (if b then mend s c (read s c).lost else transfer_bits s c (lowest s.cores.spare 0 16))
-recovers_by ls s c true h = mends ls s c (read s c).lost h
-recovers_by ls s c false h = transfers ls s c (lowest s.cores.spare 0 16) h
+recovers_by P ls s c true own h = mends P ls s c (read s c).lost own h
+recovers_by P ls s c false own h = transfers P ls s c (lowest s.cores.spare 0 16) h
 
-modes : (ls : List Strike) (t : ℕ) (g : Sight) (s : Fate) (i : ℕ) (mode : Mode)
-    → Bounded ls (bits s) → Bounded ls (bits_by ls t g s i mode)
-modes ls t g s i Lost h = h
-modes ls t g s i Recovering h = recovers_by ls s (s.cores.core i) (nat_lt (s.cores.retries i) t) h
-modes ls t g s i Running h =
-    runs_by ls g s (s.cores.core i) g.waits (s.begun (s.cores.core i) % 16 == 0) refl h
+-- a turn of a CPU, whose core is asked for unless it is lost
+pub bounded_modes : (P : ℕ → Type 0) (ls : List Strike) (t : ℕ) (g : Sight) (s : Fate) (i : ℕ)
+    (mode : Mode) → (is_lost mode ≡ false → P (s.cores.core i)) → BoundedOn P ls (bits s)
+    → BoundedOn P ls (bits_by ls t g s i mode)
+bounded_modes P ls t g s i Lost own h = h
+bounded_modes P ls t g s i Recovering own h =
+    recovers_by P ls s (s.cores.core i) (nat_lt (s.cores.retries i) t) (own refl) h
+bounded_modes P ls t g s i Running own h =
+    runs_by P ls g s (s.cores.core i) g.waits (s.begun (s.cores.core i) % 16 == 0) (own refl) refl h
 
 -- a turn of any kind
-pub bounded_turn : (ls : List Strike) (t : ℕ) (g : ℕ → Sight) (s : Fate) (k : RunKind)
+bounded_turn : (ls : List Strike) (t : ℕ) (g : ℕ → Sight) (s : Fate) (k : RunKind)
     → Bounded ls (bits s) → Bounded ls (bits_of ls t g s k)
-bounded_turn ls t g s (Turns i) h = modes ls t (g i.0) s i.0 (s.cores.mode i.0) h
+bounded_turn ls t g s (Turns i) h =
+    bounded_modes every ls t (g i.0) s i.0 (s.cores.mode i.0) (λ l. tt) h
 bounded_turn ls t g s (Key i) h = h
 bounded_turn ls t g s (Return k) h = h
 
@@ -255,9 +269,10 @@ bounded_run ls c x (k ∷ ks) h =
 pub wrong_bounded : (ls : List Strike) (c : Config) (m : Machine) (ks : List RunKind) (k : ℕ)
     → BoundAt ls k ((run_after ls c (first_model c m) ks).fate.begun k)
     ((run_after ls c (first_model c m) ks).fate.wrong k)
-wrong_bounded ls c m ks k = bounded_run ls c (first_model c m) ks (λ n. all_written ls n 0) k
+wrong_bounded ls c m ks k =
+    bounded_run ls c (first_model c m) ks (λ n asked. all_written ls n 0) k tt
 
-at_most_two_by : (ls : List Strike) (k n : ℕ) (wrong : ℕ → ℕ) → BoundAt ls k n wrong
+pub at_most_two_by : (ls : List Strike) (k n : ℕ) (wrong : ℕ → ℕ) → BoundAt ls k n wrong
     → ((j : ℕ) → j < n → (w : ℕ) → w < 40 → struck ls k j w ≤ 2) → (w : ℕ) → w < 40
     → ones (width w) (wrong w) ≤ 2
 at_most_two_by ls k zero wrong b sound w lt = let z = ap (ones (width w)) (b.fresh refl w lt) in

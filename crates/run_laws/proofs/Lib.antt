@@ -19,6 +19,8 @@ pub mod Ones
 pub mod Struck
 pub mod Masks
 pub mod Bounded
+pub mod Others
+pub mod BoundedTurns
 pub mod Modes
 pub mod Summing
 pub mod Tellings

@@ -1,3 +1,4 @@
 pub mod Runs
 pub mod TurnModes
 pub mod Counted
+pub mod Bounds

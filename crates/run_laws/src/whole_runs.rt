@@ -9,7 +9,7 @@ ghost use Rattle.run_model.specs.declared.schedules.RunKind.{RunKind};
 ghost use Rattle.run_model.specs.Checkpoint.{width};
 ghost use Rattle.run_model.specs.Code.{ones};
 ghost use Rattle.run_model.specs.Cores.{Choice, Cores, Met, does};
-ghost use Rattle.run_model.specs.Fate.{Sound};
+ghost use Rattle.run_model.specs.Fate.{Fate, Sight, Sound, fate, first_fate};
 ghost use Rattle.run_model.specs.Pieces.{text};
 ghost use Rattle.run_model.specs.Places.{Apart};
 ghost use Rattle.run_model.specs.Premise.{Within};
@@ -17,7 +17,8 @@ ghost use Rattle.run_model.specs.Reading.{BoundAt};
 ghost use Rattle.run_model.specs.Runs.{Model, entries, order, run_after, run_tells, turned};
 ghost use Rattle.run_model.specs.Sorts.{is_stop_entry};
 ghost use Rattle.run_model.specs.Texts.{turns_pieces};
-ghost use Rattle.run_laws.specs.Runs.{Tells, ValidKinds, cores_of_run, fate_of_run, met_of_run, told_of_run, told_without};
+ghost use Rattle.run_laws.specs.Bounds.{BoundedCpus, Others};
+ghost use Rattle.run_laws.specs.Runs.{Tells, ValidKind, ValidKinds, cores_of_run, fate_of_run, met_of_run, told_of_run, told_without};
 ghost use Rattle.run_laws.specs.TurnModes.{TurnModes};
 
 /// Modes, retries and log entries of a turn of a CPU belong together, whatever it meets.
@@ -68,6 +69,21 @@ pub fn few_wrong_positions()
     ensures two { (ls : List Strike) (c : Config) (m : Machine) (ks : List RunKind)
         → Sound ls (fate_of_run ls c m ks) → (k w : ℕ) → w < 40
         → ones (width w) ((fate_of_run ls c m ks).wrong k w) ≤ 2 }
+{}
+
+/// A turn of any kind keeps the bound on the wrong positions of the cores of all CPUs that are not lost,
+/// and these are within it at the start.
+#[tactic(auto, using(crate::proofs::BoundedTurns::bounded_first))]
+pub fn turns_keep_the_bound()
+    ensures kept { (ls : List Strike) (c : Config) (g : ℕ → Sight) (s : Fate) (k : RunKind)
+        → ValidKind c k → BoundedCpus ls c s → BoundedCpus ls c (fate ls c g s k).after }
+    ensures first { (ls : List Strike) (c : Config) → BoundedCpus ls c (first_fate c) }
+{}
+
+/// A turn of a CPU leaves core, mode and retries of the others.
+#[tactic(auto, using(crate::proofs::Others::others_stay))]
+pub fn turns_leave_the_others()
+    ensures { (t : ℕ) (s : Cores) (i : ℕ) (x : Met) → Others s i (does t s i x) }
 {}
 
 /// Where no CPU stops, trace and console are those of the run without strikes from whose schedule the
