@@ -8,3 +8,4 @@ pub mod Stable
 pub mod Sums
 pub mod Sweep
 pub mod Threes
+pub mod Walks

@@ -1,7 +1,7 @@
 -- Strikes in the order of their cores and first attempts, and those of one core and attempt among
 -- them. Source: choice of this project.
 use Rattle.std.specs.Prelude.{ℕ, ◌+◌, ◌-◌, ◌*◌, ◌^◌, ◌<◌, ◌≤◌, ◌≡◌, ◌==◌, Bool, true, false, if◌then◌else◌, List, [], ◌∷◌, length, take, drop, slice_index_or, flat_map, Option, Some, None}
-use Rattle.std.specs.List.Sorted.{IsNonDecreasingBy, IsStableByKey}
+use Rattle.std.specs.List.Sorted.{IsNonDecreasingBy, IsPermutation, IsStableByKey}
 use Rattle.std.specs.Ordering.{nat_cmp}
 use Rattle.run_model.specs.Script.{AllInRange, InForm}
 use Rattle.run_model.specs.declared.faults.Strike.{Strike}
@@ -39,6 +39,7 @@ if_lasting s = if is_brief s then [] else s ∷ []
 
 -- sorted by their keys; those of equal keys keep their order
 pub record IsIndex (strikes sorted : List Strike) : Type 0 where
+  pub same : IsPermutation strikes sorted
   pub rises : IsNonDecreasingBy key_of sorted
   pub stable : IsStableByKey key_of nat_cmp strikes sorted
 

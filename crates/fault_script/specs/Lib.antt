@@ -5,3 +5,4 @@ pub mod Parts
 pub mod Places
 pub mod Ranges
 pub mod Totals
+pub mod Walk

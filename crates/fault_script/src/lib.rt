@@ -11,9 +11,11 @@ mod parsing;
 #[cfg(test)]
 mod tests;
 mod verdict;
+mod walking;
 mod words;
 
 pub use order::is_brief_strike;
 pub use parsing::parse;
 pub use run_model::faults::{ScriptRefusal, Strike, Unit};
 pub use verdict::{Script, within};
+pub use walking::Cursor;

@@ -10,13 +10,15 @@ ghost use Rattle.fault_script.specs.Index.{IsFirst, IsBucket};
 use run_model::faults::{CoreNo, Strike};
 use std::alloc::{AllocError, Global};
 
-fn number(core: CoreNo, attempt: u64) -> u128
+/// One number for a core and an attempt.
+pub fn number(core: CoreNo, attempt: u64) -> u128
     ensures { result ≡ key core.0 attempt }
 {
     u128::from(core.0) * 0x1_0000_0000_0000_0000 + u128::from(attempt)
 }
 
-fn key_of_strike(s: &Strike) -> u128
+/// That of a strike's core and first attempt.
+pub fn key_of_strike(s: &Strike) -> u128
     ensures { result ≡ key_of s.now }
 {
     match *s {
@@ -48,8 +50,8 @@ pub fn index_of(alloc: Global, strikes: &[Strike]) -> Result<Vec<Strike>, AllocE
     Ok(sorted)
 }
 
-// The place of the first strike whose key is not below `q`.
-fn first_from(sorted: &[Strike], q: u128) -> usize
+/// The place of the first strike whose key is not below `q`.
+pub fn first_from(sorted: &[Strike], q: u128) -> usize
     requires { IsNonDecreasingBy key_of sorted.now }
     ensures first { IsFirst q sorted.now result result }
     ensures inside { result ≤ length sorted.now }

@@ -1,14 +1,16 @@
 // A script with its verdict and its index, which are found where there is memory to be had.
 #![tactic(auto)]
 
-ghost use Rattle.std.specs.Prelude.{◌≡◌, ◌↔◌, IsTrue, IfOk, flat_map};
+ghost use Rattle.std.specs.Prelude.{◌≡◌, ℕ, ◌+◌, ◌≤◌, ◌↔◌, IsTrue, IfOk, flat_map, length};
 ghost use Rattle.run_model.specs.Premise.{Within};
 ghost use Rattle.run_model.specs.Script.{AllInRange, InForm};
 ghost use Rattle.fault_script.specs.Index.{if_lasting};
 ghost use Rattle.fault_script.specs.Totals.{IsPart};
+ghost use Rattle.fault_script.specs.Walk.{IsAt};
 
 use crate::gathered::Gathered;
-use crate::order::{bucket, index_of, lasting_of};
+use crate::order::{bucket, first_from, index_of, lasting_of, number};
+use crate::walking::{Cursor, between, past};
 use crate::{Strike, masks, words};
 use run_model::faults::CoreNo;
 use std::alloc::{AllocError, Global};
@@ -88,6 +90,39 @@ impl Script {
         ensures ranges { AllInRange result.now }
     {
         &self.lasting
+    }
+
+    /// Before the first attempt of a core.
+    pub fn start(&self, core: CoreNo) -> Cursor
+        ensures { IsAt self.now core.0 0 result }
+    {
+        let first = first_from(&self.sorted, number(core, 0));
+        Cursor {
+            low: first,
+            high: first,
+        }
+    }
+
+    /// One attempt of a core more is begun, after so many.
+    pub fn next(&self, cursor: Cursor, core: CoreNo, begun: u64) -> Cursor
+        requires { IsAt self.now core.0 begun cursor }
+        ensures { IsAt self.now core.0 (begun + 1) result }
+    {
+        Cursor {
+            low: cursor.high,
+            high: past(&self.sorted, number(core, begun), cursor.high),
+        }
+    }
+
+    /// The strikes of a core whose first attempt is the last one begun, as `at` gives them.
+    pub fn under(&self, cursor: Cursor) -> &[Strike]
+        requires order { cursor.low ≤ cursor.high }
+        requires inside { cursor.high ≤ length self.now }
+        ensures ranges { AllInRange result.now }
+        ensures part { (core attempt : ℕ) → IsAt self.now core (attempt + 1) cursor
+            → IsPart self.now result.now core attempt }
+    {
+        between(&self.sorted, cursor.low, cursor.high)
     }
 }
 

@@ -8,6 +8,7 @@ ghost use Rattle.silicon.specs.Chip.{passed_fetch, passed_packet, passed_store};
 ghost use Rattle.silicon.specs.Tape.{Tape, tell};
 ghost use Rattle.silicon.specs.declared.handed.Handed.TheVariants as handed;
 
+mod cursors;
 mod handed;
 mod landing;
 mod laws;

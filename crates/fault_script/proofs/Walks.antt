@@ -1,0 +1,177 @@
+-- How many strikes of a sorted list are below a key, and where the others begin.
+use Rattle.std.proofs.Common.{◌≡◌, ℕ, zero, suc, ◌+◌, ◌*◌, ◌^◌, ◌-◌, ◌<◌, ◌≤◌, ◌≢◌, Bool, true, false, cond, ltb, List, [], ◌∷◌, length, take, drop, get_or, refl, sym, ap, subst, ◌∙◌, arith, inl, inr, IsPermutation}
+use Rattle.std.specs.List.{count_by}
+use Rattle.std.specs.List.Sorted.{IsNonDecreasingBy}
+use Rattle.std.proofs.lemmas.List.Sums.{sum_by-cons, count_by-le-length}
+use Rattle.std.proofs.lemmas.List.Sorted.{sum_by-IsPermutation, length_permutation}
+use Rattle.std.proofs.lemmas.Bool.{cases_lt}
+use Rattle.std.proofs.lemmas.Bool.Decides.{nat_tests}
+use Rattle.run_model.specs.declared.faults.Strike.{Strike}
+use Rattle.fault_script.specs.Index.{key, key_of, IsFirst, IsIndex}
+use Rattle.fault_script.specs.Totals.{IsPart}
+use Rattle.fault_script.specs.Walk.{count_below, before, IsAt}
+use Rattle.fault_script.specs.declared.walking.Cursor.{Cursor}
+use Rattle.fault_script.proofs.Buckets.{bucket_between, first_up, first_down}
+use Rattle.fault_script.proofs.Sums.{part_found}
+
+less : (a q : ℕ) → a < q → ltb a q ≡ true
+less a q h = grind (arith, nat_tests)
+
+not_less : (a q : ℕ) → q ≤ a → ltb a q ≡ false
+not_less a q h = grind (arith, nat_tests)
+
+count_one : (q : ℕ) (x : Strike) (xs : List Strike) → key_of x < q → count_below q (x ∷ xs) ≡ suc (count_below q xs)
+count_one q x xs h =
+    let s = sum_by-cons (λ (y : Strike). cond (ltb (key_of y) q) 1 0) x xs in
+    let w : cond {A = ℕ} (ltb (key_of x) q) 1 0 ≡ 1 = rw (less (key_of x) q h) refl in
+    omega arith
+
+count_other : (q : ℕ) (x : Strike) (xs : List Strike) → q ≤ key_of x → count_below q (x ∷ xs) ≡ count_below q xs
+count_other q x xs h =
+    let s = sum_by-cons (λ (y : Strike). cond (ltb (key_of y) q) 1 0) x xs in
+    let w : cond {A = ℕ} (ltb (key_of x) q) 1 0 ≡ 0 = rw (not_less (key_of x) q h) refl in
+    omega arith
+
+-- the first place from which on no key is below q is the number of those that are
+pub count_first : (q : ℕ) (xs : List Strike) (n : ℕ) → IsFirst q xs n n → n ≤ length xs → n ≡ count_below q xs
+count_first q [] zero f l = refl
+count_first q [] (suc n) f l = absurd (omega arith)
+count_first q (x ∷ xs) zero f l =
+    let r = count_first q xs zero (record {
+      below = λ k d a i. absurd (omega arith);
+      above = λ k d a i. f.above (suc k) d (omega arith) (omega arith);
+    }) (omega arith) in
+    let s = count_other q x xs (f.above 0 x (omega arith) (omega arith)) in
+    omega arith
+count_first q (x ∷ xs) (suc n) f l =
+    let r = count_first q xs n (record {
+      below = λ k d a i. f.below (suc k) d (omega arith) (omega arith);
+      above = λ k d a i. f.above (suc k) d (omega arith) (omega arith);
+    }) (omega arith) in
+    let s = count_one q x xs (f.below 0 x (omega arith) (omega arith)) in
+    omega arith
+
+rises_tail : (x : Strike) (xs : List Strike) → IsNonDecreasingBy key_of (x ∷ xs) → IsNonDecreasingBy key_of xs
+rises_tail x xs r i j d a b = r (suc i) (suc j) d (omega arith) (omega arith)
+
+below_more : (q : ℕ) (x : Strike) (xs : List Strike) (m n : ℕ) → key_of x < q → m ≡ suc n → IsFirst q xs n n → (k : ℕ) (d : Strike) → k < m → k < length (x ∷ xs) → key_of (get_or (x ∷ xs) k d) < q
+below_more q x xs m n h e f zero d a i = h
+below_more q x xs m n h e f (suc k) d a i = f.below k d (omega arith) (omega arith)
+
+above_more : (q : ℕ) (x : Strike) (xs : List Strike) (m n : ℕ) → m ≡ suc n → IsFirst q xs n n → (k : ℕ) (d : Strike) → m ≤ k → k < length (x ∷ xs) → q ≤ key_of (get_or (x ∷ xs) k d)
+above_more q x xs m n e f zero d a i = absurd (omega arith)
+above_more q x xs m n e f (suc k) d a i = f.above k d (omega arith) (omega arith)
+
+first_more : (q : ℕ) (x : Strike) (xs : List Strike) (m n : ℕ) → key_of x < q → m ≡ suc n → IsFirst q xs n n → IsFirst q (x ∷ xs) m m
+first_more q x xs m n h e f = record {
+  below = below_more q x xs m n h e f;
+  above = above_more q x xs m n e f;
+}
+
+none_below : (q : ℕ) (x : Strike) (xs : List Strike) (n : ℕ) → q ≤ key_of x → IsNonDecreasingBy key_of (x ∷ xs) → IsFirst q xs n n → n ≤ length xs → n ≡ 0
+none_below q x xs zero h r f l = refl
+none_below q x xs (suc n) h r f l =
+    let a = r 0 1 x (omega arith) (omega arith) in
+    let b = f.below 0 x (omega arith) (omega arith) in
+    absurd (omega (arith, a, b))
+
+above_here : (q : ℕ) (x : Strike) (xs : List Strike) → q ≤ key_of x → IsNonDecreasingBy key_of (x ∷ xs) → (k : ℕ) (d : Strike) → k < length (x ∷ xs) → q ≤ key_of (get_or (x ∷ xs) k d)
+above_here q x xs h r zero d i = h
+above_here q x xs h r (suc k) d i = let a = r 0 (suc k) d (omega arith) i in omega (arith, a)
+
+first_here : (q : ℕ) (x : Strike) (xs : List Strike) (m : ℕ) → m ≡ 0 → q ≤ key_of x → IsNonDecreasingBy key_of (x ∷ xs) → IsFirst q (x ∷ xs) m m
+first_here q x xs m e h r = record {
+  below = λ k d a i. absurd (omega arith);
+  above = λ k d a i. above_here q x xs h r k d i;
+}
+
+-- and there they begin
+pub first_count : (q : ℕ) (xs : List Strike) → IsNonDecreasingBy key_of xs → IsFirst q xs (count_below q xs) (count_below q xs)
+first_count q [] r = record {
+  below = λ k d a i. absurd (omega arith);
+  above = λ k d a i. absurd (omega arith);
+}
+first_count q (x ∷ xs) r =
+    let n = count_below q xs in
+    let f : IsFirst q xs n n = first_count q xs (rises_tail x xs r) in
+    elim (cases_lt (key_of x) q) [
+      | inl h ↦ first_more q x xs _ n h (count_one q x xs h) f
+      | inr h ↦ first_here q x xs _ (count_other q x xs h ∙ none_below q x xs n h r f (count_by-le-length _ xs)) h r
+    ]
+
+-- ---- one attempt after another
+pub past_last : (q : ℕ) (xs : List Strike) (n : ℕ) → ((k : ℕ) (d : Strike) → k < n → k < length xs → key_of (get_or xs k d) < q + 1) → n ≡ length xs → n ≡ count_below (q + 1) xs
+past_last q xs n below e = count_first (q + 1) xs n (record {
+  below = below;
+  above = λ k d a i. absurd (omega arith);
+}) (omega arith)
+
+-- the next one's key is another than q, and no less
+pub past_here : (q : ℕ) (xs : List Strike) (from n r : ℕ) (e : Strike) → IsNonDecreasingBy key_of xs → from ≡ count_below q xs → from ≤ n → n < length xs → ((k : ℕ) (d : Strike) → k < n → k < length xs → key_of (get_or xs k d) < q + 1) → r ≡ key_of (get_or xs n e) → r ≢ q → n ≡ count_below (q + 1) xs
+past_here q xs from n r e rises first l h below is ne =
+    let f = first_count q xs rises in
+    let a = f.above n e (omega arith) h in
+    let more : q + 1 ≤ r = omega (arith, a, is, ne) in
+    let here = first_down (q + 1) xs n (length xs) n r e rises (record {
+      below = below;
+      above = λ k d b i. absurd (omega arith);
+    }) h is more in
+    count_first (q + 1) xs n here (omega arith)
+
+-- a place more, with the key q
+pub past_more : (q : ℕ) (xs : List Strike) (n r : ℕ) (e : Strike) → IsNonDecreasingBy key_of xs → n < length xs → ((k : ℕ) (d : Strike) → k < n → k < length xs → key_of (get_or xs k d) < q + 1) → r ≡ key_of (get_or xs n e) → r ≡ q → (k : ℕ) (d : Strike) → k < n + 1 → k < length xs → key_of (get_or xs k d) < q + 1
+past_more q xs n r e rises h below is same k d l i =
+    let f = first_up (q + 1) xs n (length xs) n r e rises (record {
+      below = below;
+      above = λ k d b i. absurd (omega arith);
+    }) h is (omega arith) in
+    f.below k d l i
+
+-- before the last attempt that was begun, as the loop reached it
+pub nothing_past : (q : ℕ) (xs : List Strike) (from : ℕ) → IsNonDecreasingBy key_of xs → from ≡ count_below q xs → (k : ℕ) (d : Strike) → k < from → k < length xs → key_of (get_or xs k d) < q + 1
+nothing_past q xs from rises first k d l i =
+    let f = first_count q xs rises in
+    let a = f.below k d (omega arith) i in
+    omega (arith, a)
+
+-- ---- the places in a script's order
+same_count : (ls xs : List Strike) (q : ℕ) → IsIndex ls xs → count_below q xs ≡ count_below q ls
+same_count ls xs q h = sum_by-IsPermutation (λ (y : Strike). cond (ltb (key_of y) q) 1 0) ls xs h.same
+
+pub at_start : (ls xs : List Strike) (c p : ℕ) → IsIndex ls xs → IsFirst (key c 0) xs p p → p ≤ length xs → IsAt ls c 0 (record { low = p; high = p })
+unfolding before
+at_start ls xs c p h f l =
+    let e : p ≡ count_below (key c 0) ls = count_first (key c 0) xs p f l ∙ same_count ls xs (key c 0) h in
+    let same = length_permutation ls xs h.same in
+    record { low = e; high = e; order = omega arith; inside = omega (arith, same) }
+
+pub high_is : (ls xs : List Strike) (c n : ℕ) (at : Cursor) → IsIndex ls xs → IsAt ls c n at → at.high ≡ count_below (key c n) xs
+unfolding before
+high_is ls xs c n at h a = a.high ∙ sym (same_count ls xs (key c n) h)
+
+pub at_next : (ls xs : List Strike) (c n p : ℕ) (at : Cursor) → IsIndex ls xs → IsAt ls c n at → p ≡ count_below (key c n + 1) xs → at.high ≤ p → p ≤ length xs → IsAt ls c (n + 1) (record { low = at.high; high = p })
+unfolding before
+at_next ls xs c n p at h a e o l =
+    let k : key c n + 1 ≡ key c (n + 1) = omega arith in
+    let z : n ≡ n + 1 - 1 = omega arith in
+    let same = length_permutation ls xs h.same in
+    record {
+      low = a.high ∙ ap (before ls c) z;
+      high = e ∙ same_count ls xs (key c n + 1) h ∙ ap (λ q. count_below q ls) k;
+      order = o;
+      inside = omega (arith, same);
+    }
+
+pub inside_order : (ls xs : List Strike) (n : ℕ) → IsIndex ls xs → n ≤ length ls → n ≤ length xs
+inside_order ls xs n h l = let same = length_permutation ls xs h.same in omega (arith, same)
+
+pub part_at : (ls xs b : List Strike) (at : Cursor) → IsIndex ls xs → b ≡ take (at.high - at.low) (drop at.low xs) → (c n : ℕ) → IsAt ls c (n + 1) at → IsPart ls b c n
+unfolding before
+part_at ls xs b at h is c n a =
+    let k : key c (n + 1) ≡ key c n + 1 = omega arith in
+    let z : n + 1 - 1 ≡ n = omega arith in
+    let low : count_below (key c n) xs ≡ at.low = same_count ls xs (key c n) h ∙ sym (a.low ∙ ap (before ls c) z) in
+    let high : count_below (key c n + 1) xs ≡ at.high = same_count ls xs (key c n + 1) h ∙ sym (a.high ∙ ap (λ q. count_below q ls) k) in
+    let f : IsFirst (key c n) xs at.low at.low = subst (λ p. IsFirst (key c n) xs p p) low (first_count (key c n) xs h.rises) in
+    let g : IsFirst (key c n + 1) xs at.high at.high = subst (λ p. IsFirst (key c n + 1) xs p p) high (first_count (key c n + 1) xs h.rises) in
+    part_found ls xs b c n h (bucket_between (key c n) xs b at.low at.high f g a.order is)
