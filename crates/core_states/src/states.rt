@@ -85,11 +85,11 @@ impl RunningCore {
         &self.registers
     }
 
-    /// One attempt at the event that is due at a CPU with its registers. Before each 16th attempt all
-    /// words of the core are read; it is not begun where one is lost. An attempt makes the sealed
-    /// fetch latch of the event, one packet in each of the two units, and the sealed store latch of
-    /// unit A's packet, and each of them passes the silicon. It fails where a latch comes back with
-    /// even parity, or the two packets differ; else unit A's packet is to be carried out.
+    /// One attempt at the event that is due at a CPU with its registers. Before each 16th attempt
+    /// all words of the core are read; it is not begun where one is lost. An attempt makes the
+    /// sealed fetch latch of the event, one packet in each of the two units, and the sealed store
+    /// latch of unit A's packet, and each of them passes the silicon. It fails where a latch comes
+    /// back with even parity, or the two packets differ; else unit A's packet is to be carried out.
     pub fn attempt<V: View, Z: Silicon, P: ResultUnit, Q: ResultUnit>(
         self,
         cpu: CpuNo,
