@@ -1,0 +1,5 @@
+pub mod Held
+pub mod Places
+pub mod Meeting
+pub mod ChipAfter
+pub mod Giving
