@@ -1,14 +1,18 @@
 -- What a turn of a CPU does to the silicon, by its mode and by what it meets; in the same cases as
 -- the table of turns. Source: choice of this project.
-use Rattle.std.specs.Prelude.{ℕ, Bool, true, false, Option, Some, None, nat_lt}
+use Rattle.std.specs.Prelude.{◌≡◌, ◌≤◌, ◌+◌, ℕ, Bool, true, false, Option, Some, None, nat_lt}
 use Rattle.esa_model.specs.declared.machine.Registers.{Registers}
 use Rattle.run_model.specs.declared.faults.Cause.{Cause}
 use Rattle.run_model.specs.declared.faults.Mode.{Mode}
 use Rattle.run_model.specs.declared.faults.Mode.TheVariants.{Running, Recovering, Lost}
 use Rattle.run_model.specs.Cores.{Cores, lowest}
 use Rattle.core_states.specs.Words.{Attempts, Changes, Fills, Rewrites, Scrubs, is_due, read_core}
-use Rattle.core_states.specs.States.{registers_read}
+use Rattle.core_states.specs.Read.{registers_read}
+use Rattle.esa_model.specs.Line.{Side}
 use Rattle.silicon.specs.Chip.{Chip, Stays}
+use Rattle.core_turns.specs.Held.{CorePool, HeldBy, SparesAre, RunsWith}
+use Rattle.core_turns.specs.Meeting.{WaitsAs}
+use Rattle.core_turns.specs.declared.held.Held.{Held}
 
 -- an attempt began, and its registers were written
 pub record CommitsWords (c : ℕ) (before after : Registers) (old new : Chip) : Type 0 where
@@ -60,3 +64,16 @@ ChipByMode t s i waits why before after Recovering old new =
     RecoveredChip (s.core i) (lowest s.spare 0 16) (nat_lt (s.retries i) t) old new
 ChipByMode t s i waits why before after Running old new =
     RunningChip (s.core i) before after why waits old new
+
+-- it is so for every state that stands for what was held and for the pool
+abbrev pub TurnChanges :
+    ℕ → ℕ → Held → Side → CorePool → Option Cause → Held → Chip → Chip → Type 0
+TurnChanges t i h side p why h2 old new = (s : Cores) (w : Bool) (before after : Registers)
+    → HeldBy h s i → WaitsAs h i side w → SparesAre p s.spare
+    → RunsWith h before → RunsWith h2 after
+    → ChipByMode t s i w why before after (s.mode i) old new
+
+-- the script stays, and no core begins more than one attempt
+pub record Rises (old new : Chip) : Type 0 where
+  pub lines : new.lines ≡ old.lines
+  pub begun : (c : ℕ) → new.begun c ≤ old.begun c + 1

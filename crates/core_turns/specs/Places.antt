@@ -1,6 +1,6 @@
 -- In which places the number of a core stands: with a CPU that is not lost, among the spares, among
 -- the fenced. Source: choice of this project.
-use Rattle.std.specs.Prelude.{◌≡◌, ◌≤◌, ℕ, ◌+◌, List, [], ◌∷◌, ◌==◌, if◌then◌else◌}
+use Rattle.std.specs.Prelude.{◌≡◌, ℕ, ◌+◌, List, [], ◌∷◌, ◌==◌, if◌then◌else◌}
 use Rattle.run_model.specs.declared.logs.Config.{Config}
 use Rattle.run_model.specs.Cores.{belongs}
 use Rattle.sparing.specs.Pools.{holds}

@@ -1,8 +1,12 @@
 use crate::outcomes::Outcome;
-use core_states::{RecoveringCore, RunningCore};
+use core_states::{FencedCore, RecoveringCore, RunningCore, SpareCore};
 use esa_model::machine::Psw;
 use result_packet::Written;
 use run_model::faults::CoreNo;
+use sparing::Pool;
+
+/// The cores that no CPU has.
+pub type SparePool = Pool<SpareCore, FencedCore>;
 
 /// What a machine holds for a CPU.
 #[derive(Drop)]

@@ -1,13 +1,22 @@
-// A library with one function.
+//! What a turn of one CPU does, over the parts of a machine.
 #![tactic(auto)]
 
-ghost use Rattle.std.specs.Prelude.{◌≡◌};
-ghost use Rattle.core_turns.specs.Echo.{echo_of};
+mod clock;
+mod ends;
+mod held;
+mod idling;
+mod journal;
+mod memory;
+mod outcomes;
+mod recovering;
+mod registers;
+mod running;
+mod turning;
 
-// The `ensures` clause is the contract: what `echo` returns is `echo_of` of its argument, a definition
-// in `specs/Echo.antt`, which a caller's clause can cite too.
-pub fn echo(x: usize) -> usize
-    ensures { result ≡ echo_of x }
-{
-    x
-}
+pub use clock::advance_clock;
+pub use held::{Held, SparePool, Turned};
+pub use journal::Journal;
+pub use memory::Memory;
+pub use outcomes::Outcome;
+pub use registers::are_registers;
+pub use turning::turn_held;
