@@ -1,0 +1,10 @@
+pub mod Shown
+pub mod Journals
+pub mod Held
+pub mod Places
+pub mod Meeting
+pub mod ChipAfter
+pub mod Giving
+pub mod Ends
+pub mod Handing
+pub mod Recovered

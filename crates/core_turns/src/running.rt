@@ -1,0 +1,102 @@
+// A turn of a CPU whose core runs.
+ghost use Rattle.std.specs.Prelude.{◌≡◌, ◌+◌, ◌-◌, ◌^◌, ◌<◌, ◌≤◌, ℕ, IsTrue, length};
+ghost use Rattle.esa_model.specs.Changes.{stretches};
+ghost use Rattle.core_turns.specs.ChipAfter.{Rises, TurnChanges};
+ghost use Rattle.core_turns.specs.Giving.{IsSureCommit, StaysUnlessCommitted, TurnGives};
+ghost use Rattle.core_turns.specs.Handing.{Finds, HandsIn, calls_of};
+ghost use Rattle.core_turns.specs.Held.{IsThere, HoldsRegisters};
+ghost use Rattle.core_turns.specs.Journals.{IsBlank};
+ghost use Rattle.core_turns.specs.Meeting.{TurnGoes, next_cause, why_met};
+ghost use Rattle.core_turns.specs.Places.{on, with_cpu, in_pool};
+ghost use Rattle.core_turns.specs.declared.held.Held.TheVariants as holding;
+
+use crate::clock::advance_clock;
+use crate::ends::{end_idle, end_stopped, end_without_commit};
+use crate::held::{Held, SparePool, Turned};
+use crate::idling::is_waiting;
+use crate::journal::Journal;
+use crate::memory::Memory;
+use crate::outcomes::Outcome;
+use crate::registers::are_registers;
+use core_states::{Attempt, Notes, RunningCore};
+use esa_model::machine::CpuNo;
+use result_packet::Side;
+use silicon::Silicon;
+use twin_units::ResultUnit;
+
+/// The turn is idle, or makes an attempt: the event that is due is carried out, or the core is to be
+/// recovered, or a word is lost and the CPU stops.
+pub fn turn_running<Z: Silicon, P: ResultUnit, Q: ResultUnit>(
+    k: RunningCore,
+    cpu: CpuNo,
+    memory: &mut Memory,
+    side: &mut Side,
+    pool: &mut SparePool,
+    z: &mut Z,
+    a: &mut P,
+    b: &mut Q,
+    journal: &mut Journal,
+) -> Turned
+    requires blank { IsBlank journal.old cpu.0 k.core.0 }
+    requires begun { (Z.seen z.old).begun k.core.0 < 2 ^ 64 - 1 }
+    requires calls_a { (P.seen a.old).calls < 2 ^ 64 - 1 }
+    requires calls_b { (Q.seen b.old).calls < 2 ^ 64 - 1 }
+    requires once { (n : ℕ) → on k.core.0 n + in_pool n pool.old ≤ 1 }
+    ensures goes { (t : ℕ) → TurnGoes t journal.old.turn cpu.0 (holding.Running k) side.old pool.old
+        (Z.seen z.old) journal.new.entries.items result.outcome result.held pool.new }
+    ensures chip { (t : ℕ) → TurnChanges t cpu.0 (holding.Running k) side.old pool.old
+        (why_met (Z.seen z.old) (holding.Running k) result.outcome) result.held
+        (Z.seen z.old) (Z.seen z.new) }
+    ensures finds { Finds (holding.Running k) (Z.seen z.old) cpu.0 memory.old.bytes side.old
+        (P.seen a.new) (Q.seen b.new) result.outcome }
+    ensures causes { IsTrue (P.seen a.old).exact → IsTrue (Q.seen b.old).exact
+        → why_met (Z.seen z.old) (holding.Running k) result.outcome
+        ≡ next_cause (Z.seen z.old) k.core.0 }
+    ensures gives { IsSureCommit result.outcome (P.seen a.old).exact (Q.seen b.old).exact
+        (Z.seen z.old) k.core.0
+        → TurnGives cpu.0 (holding.Running k) memory.old.bytes side.old journal.new.entries.items
+        result memory.new.bytes side.new }
+    ensures quiet { StaysUnlessCommitted result.outcome memory.old.bytes memory.new.bytes }
+    ensures moves { (n : ℕ) → with_cpu n result.held + in_pool n pool.new
+        ≡ on k.core.0 n + in_pool n pool.old }
+    ensures tape { HandsIn (holding.Running k) (Z.seen z.old) cpu.0 memory.old.bytes side.old
+        (P.seen a.new) (Q.seen b.new) result.outcome (Z.tape z.old) (Z.tape z.new) }
+    ensures calls_a { (P.seen a.new).calls ≡ (P.seen a.old).calls + calls_of result.outcome }
+    ensures calls_b { (Q.seen b.new).calls ≡ (Q.seen b.old).calls + calls_of result.outcome }
+    ensures kind_a { (P.seen a.new).exact ≡ (P.seen a.old).exact }
+    ensures kind_b { (Q.seen b.new).exact ≡ (Q.seen b.old).exact }
+    ensures rises { Rises (Z.seen z.old) (Z.seen z.new) }
+    ensures there { IsThere result.held }
+    ensures widths { HoldsRegisters result.held }
+    ensures stretches { length (stretches result.written.changed.items) ≤ 135 }
+{
+    if is_waiting(k.registers(), cpu, side) {
+        are_registers(k.registers());
+        return end_idle(Held::Running(k), side);
+    }
+    let retries = k.retries();
+    let mut notes = Notes::new();
+    match k.attempt(cpu, memory, side, z, a, b, &mut notes) {
+        Attempt::Committed(k, packet) => {
+            journal.log_notes(notes.as_slice());
+            let mut r = *k.registers();
+            let written = memory.carry_out(side, cpu, &mut r, &packet);
+            advance_clock(side);
+            are_registers(&r);
+            Turned {
+                held: Held::Running(k.committed(r, z)),
+                outcome: Outcome::Committed,
+                psw: r.psw,
+                written,
+            }
+        }
+        Attempt::Failed(k, why, attempt) => {
+            journal.log_failed(notes.as_slice(), why, attempt);
+            end_without_commit(Held::Recovering(k), Outcome::Failed(why))
+        }
+        Attempt::Lost(f, word) => {
+            journal.log_lost(notes.as_slice(), word);
+            end_stopped(f, retries, cpu, side, pool)
+        }
+    }
+}
