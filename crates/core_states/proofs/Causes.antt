@@ -1,11 +1,11 @@
 -- An attempt fails by one cause or by none.
-use Rattle.std.proofs.Common.{◌≡◌, ℕ, ◌<◌, Bool, true, false, List, length, Option, Some, None, refl, sym, ◌∙◌}
+use Rattle.std.proofs.Common.{◌≡◌, ℕ, ◌<◌, Bool, true, false, length, Option, Some, None, refl, sym, ◌∙◌}
 use Rattle.run_model.specs.Strikes.{mask_byte}
 use Rattle.run_model.specs.declared.faults.Cause.{Cause}
 use Rattle.run_model.specs.declared.faults.Cause.TheVariants.{Fetch, Mismatch, Store}
 use Rattle.run_model.specs.declared.faults.Unit.TheVariants.{A}
 use Rattle.silicon.proofs.Masked.{told_none}
-use Rattle.core_states.specs.Trial.{Trial, FailsBy, passed_a, passed_b, fetch_good, store_good}
+use Rattle.core_states.specs.Trial.{Trial, FailsBy, passed_a, fetch_good, store_good}
 
 apart : (b : Bool) → b ≡ true → b ≡ false → ⊥
 apart b e f = let q : true ≡ false = sym e ∙ f in absurd cc

@@ -1,6 +1,6 @@
 -- A sealed latch is good where it was not struck, and not good where it was.
-use Rattle.std.proofs.Common.{◌≡◌, ℕ, ◌<◌, ◌≤◌, ◌*◌, Bool, true, false, List, length, Option, Some, None, refl, sym, ◌∙◌, ap, arith, cond, eqb}
-use Rattle.std.specs.Prelude.{not, ◌==◌, IsTrue}
+use Rattle.std.proofs.Common.{◌≡◌, ℕ, ◌<◌, ◌≤◌, Bool, true, false, List, length, Option, Some, None, refl, sym, ◌∙◌, arith, cond, eqb}
+use Rattle.std.specs.Prelude.{not}
 use Rattle.std.specs.Option.{is_some}
 use Rattle.std.proofs.lemmas.Bool.Decides.{nat_tests}
 use Rattle.esa_model.specs.Latch.{parity_bit, is_good}
@@ -11,7 +11,7 @@ use Rattle.result_packet.proofs.Ones.{sealed_good, changed_bad, parity_bad}
 use Rattle.run_model.specs.Script.{InForm}
 use Rattle.run_model.specs.Strikes.{fetch_bit, store_bit}
 use Rattle.run_model.specs.declared.faults.Strike.{Strike}
-use Rattle.silicon.specs.Chip.{hit_fetch, hit_store}
+use Rattle.silicon.specs.Chip.{hit_fetch}
 use Rattle.silicon.specs.Landing.{UpTo}
 use Rattle.silicon.proofs.Smalls.{small_fetch, small_store}
 use Rattle.core_states.specs.Trial.{passes_fetch, passes_store}

@@ -1,7 +1,7 @@
 -- What reading and writing the checkpoint words of a core does to the silicon.
 -- Source: choice of this project (the words of a checkpoint are read in their order, and a corrected
 -- one is written back; before each 16th attempt they are read in any case).
-use Rattle.std.specs.Prelude.{◌≡◌, ℕ, ◌+◌, ◌%◌, ◌<◌, Bool, true, List, [], Option, None, ◌==◌, ◌&&◌, not, if◌then◌else◌, bit_xor}
+use Rattle.std.specs.Prelude.{◌≡◌, ℕ, ◌+◌, ◌%◌, ◌<◌, Bool, true, [], Option, None, ◌==◌, ◌&&◌, not, if◌then◌else◌, bit_xor}
 use Rattle.esa_model.specs.declared.machine.Registers.{Registers}
 use Rattle.run_model.specs.declared.readings.Mark.{Mark}
 use Rattle.run_model.specs.Checkpoint.{word_of}

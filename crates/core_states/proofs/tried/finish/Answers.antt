@@ -1,4 +1,3 @@
-use Rattle.std.proofs.Common.{◌≡◌}
 use Rattle.core_states.proofs.Tries.{steps_found, store_found, due_there, step_there}
 use Rattle.core_states.proofs.tried.finish.Goals as goal
 
