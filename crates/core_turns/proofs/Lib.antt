@@ -6,3 +6,11 @@ pub mod Goes
 pub mod Chips
 pub mod Steps
 pub mod Widths
+pub mod Stores
+pub mod Meets
+pub mod Commits
+pub mod Following
+pub mod Followed
+pub mod Sums
+pub mod Buses
+pub mod Others

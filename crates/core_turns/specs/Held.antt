@@ -7,6 +7,7 @@ use Rattle.esa_model.specs.declared.machine.Registers.{Registers}
 use Rattle.run_model.specs.declared.faults.Mode.TheVariants as mode
 use Rattle.run_model.specs.Cores.{Cores}
 use Rattle.runit_ecc.specs.Bounds.{AreRegisters}
+use Rattle.checkpoint_laws.specs.Stored.{ClocksFit}
 use Rattle.sparing.specs.Pools.{Pooled, stands}
 use Rattle.core_turns.specs.declared.held.Held.{Held}
 use Rattle.core_turns.specs.declared.held.Held.TheVariants.{Running, Recovering, Lost, Taken}
@@ -42,9 +43,14 @@ RunsWith (Recovering k) r = ⊤
 RunsWith (Lost c retries) r = ⊤
 RunsWith Taken r = ⊤
 
--- the registers of a running core have their widths
+-- registers whose numbers have the widths of the words that store them
+pub record AreStorable (r : Registers) : Type 0 where
+  pub registers : AreRegisters r
+  pub clocks : ClocksFit r
+
+-- those of a running core are such
 abbrev pub HoldsRegisters : Held → Type 0
-HoldsRegisters (Running k) = AreRegisters k.registers
+HoldsRegisters (Running k) = AreStorable k.registers
 HoldsRegisters (Recovering k) = ⊤
 HoldsRegisters (Lost c retries) = ⊤
 HoldsRegisters Taken = ⊤

@@ -8,3 +8,5 @@ pub mod Giving
 pub mod Ends
 pub mod Handing
 pub mod Recovered
+pub mod Standing
+pub mod Following

@@ -1,6 +1,6 @@
 // The numbers in registers have their widths.
 ghost use Rattle.std.specs.Prelude.{◌≡◌, ◌<◌, ◌^◌, ℕ, length, slice_index};
-ghost use Rattle.runit_ecc.specs.Bounds.{AreRegisters};
+ghost use Rattle.core_turns.specs.Held.{AreStorable};
 
 use esa_model::machine::Registers;
 
@@ -12,20 +12,28 @@ fn are_words(words: [u32; 16])
     let _words = words;
 }
 
+fn are_clocks(words: [u64; 4])
+    ensures count { length words ≡ 4 }
+    ensures small { (k : ℕ) → slice_index words k < 2 ^ 64 }
+{
+    let _words = words;
+}
+
 fn is_word(word: u32)
     ensures { word < 2 ^ 32 }
 {
     let _word = word;
 }
 
-/// Registers are so many words, each of 32 bits before those of the clocks.
+/// Registers are so many words: of the clocks each of 64 bits, the others each of 32.
 #[tactic(auto, using(crate::proofs::Widths::registers_fit))]
 pub fn are_registers(r: &Registers)
-    ensures { AreRegisters r.now }
+    ensures { AreStorable r.now }
 {
     are_words(r.general);
     are_words(r.control);
     is_word(r.psw.w0);
     is_word(r.psw.w1);
     is_word(r.prefix);
+    are_clocks(r.clocks);
 }

@@ -1,7 +1,11 @@
 // A turn of a CPU, whatever is held for it.
 ghost use Rattle.std.specs.Prelude.{◌≡◌, ◌+◌, ◌-◌, ◌^◌, ◌<◌, ◌≤◌, ℕ, IsTrue, length};
 ghost use Rattle.esa_model.specs.Changes.{stretches};
+ghost use Rattle.run_model.specs.Runs.{Model, turned};
+ghost use Rattle.run_model.specs.declared.logs.Config.{Config};
+ghost use Rattle.run_model.specs.declared.schedules.RunKind.TheVariants as kinds;
 ghost use Rattle.core_turns.specs.ChipAfter.{Rises, TurnChanges};
+ghost use Rattle.core_turns.specs.Following.{Followed, IsBefore};
 ghost use Rattle.core_turns.specs.Giving.{IsSureCommit, StaysUnlessCommitted, TurnGives};
 ghost use Rattle.core_turns.specs.Handing.{Finds, HandsIn, calls_of};
 ghost use Rattle.core_turns.specs.Held.{IsThere, HoldsRegisters, core_of};
@@ -21,10 +25,8 @@ use result_packet::Side;
 use silicon::Silicon;
 use twin_units::ResultUnit;
 
-/// One turn of a CPU, over the parts of its machine: what is held for the CPU, the storage, what
-/// stands beside it, the pool of cores, the silicon, and two units. The journal is for this turn, and
-/// gets its entries. A CPU that is lost is idle.
-pub fn turn_held<Z: Silicon, P: ResultUnit, Q: ResultUnit>(
+// The same by what is held.
+fn turn_in_mode<Z: Silicon, P: ResultUnit, Q: ResultUnit>(
     held: Held,
     cpu: CpuNo,
     threshold: u8,
@@ -75,4 +77,61 @@ pub fn turn_held<Z: Silicon, P: ResultUnit, Q: ResultUnit>(
         Held::Lost(core, retries) => end_idle(Held::Lost(core, retries), side),
         Held::Taken => end_idle(Held::Taken, side),
     }
+}
+
+/// One turn of a CPU, over the parts of its machine: what is held for the CPU, the storage, what
+/// stands beside it, the pool of cores, the silicon, and two units. The journal is for this turn, and
+/// gets its entries. A CPU that is lost is idle.
+pub fn turn_held<Z: Silicon, P: ResultUnit, Q: ResultUnit>(
+    held: Held,
+    cpu: CpuNo,
+    threshold: u8,
+    memory: &mut Memory,
+    side: &mut Side,
+    pool: &mut SparePool,
+    z: &mut Z,
+    a: &mut P,
+    b: &mut Q,
+    journal: &mut Journal,
+) -> Turned
+    requires blank { IsBlank journal.old cpu.0 (core_of held) }
+    requires small { threshold ≤ 15 }
+    requires begun { (Z.seen z.old).begun (core_of held) < 2 ^ 64 - 1 }
+    requires calls_a { (P.seen a.old).calls < 2 ^ 64 - 1 }
+    requires calls_b { (Q.seen b.old).calls < 2 ^ 64 - 1 }
+    requires once { (n : ℕ) → with_cpu n held + in_pool n pool.old ≤ 1 }
+    ensures goes { TurnGoes threshold journal.old.turn cpu.0 held side.old pool.old
+        (Z.seen z.old) journal.new.entries.items result.outcome result.held pool.new }
+    ensures chip { TurnChanges threshold cpu.0 held side.old pool.old
+        (why_met (Z.seen z.old) held result.outcome) result.held (Z.seen z.old) (Z.seen z.new) }
+    ensures finds { Finds held (Z.seen z.old) cpu.0 memory.old.bytes side.old
+        (P.seen a.new) (Q.seen b.new) result.outcome }
+    ensures causes { IsTrue (P.seen a.old).exact → IsTrue (Q.seen b.old).exact
+        → why_met (Z.seen z.old) held result.outcome ≡ next_cause (Z.seen z.old) (core_of held) }
+    ensures recovered { Recovers held (Z.seen z.old) result.held }
+    ensures gives { IsSureCommit result.outcome (P.seen a.old).exact (Q.seen b.old).exact
+        (Z.seen z.old) (core_of held)
+        → TurnGives cpu.0 held memory.old.bytes side.old journal.new.entries.items result
+        memory.new.bytes side.new }
+    ensures quiet { StaysUnlessCommitted result.outcome memory.old.bytes memory.new.bytes }
+    ensures moves { (n : ℕ) → with_cpu n result.held + in_pool n pool.new
+        ≡ with_cpu n held + in_pool n pool.old }
+    ensures tape { HandsIn held (Z.seen z.old) cpu.0 memory.old.bytes side.old
+        (P.seen a.new) (Q.seen b.new) result.outcome (Z.tape z.old) (Z.tape z.new) }
+    ensures calls_a { (P.seen a.new).calls ≡ (P.seen a.old).calls + calls_of result.outcome }
+    ensures calls_b { (Q.seen b.new).calls ≡ (Q.seen b.old).calls + calls_of result.outcome }
+    ensures kind_a { (P.seen a.new).exact ≡ (P.seen a.old).exact }
+    ensures kind_b { (Q.seen b.new).exact ≡ (Q.seen b.old).exact }
+    ensures rises { Rises (Z.seen z.old) (Z.seen z.new) }
+    ensures there { IsThere held → IsThere result.held }
+    ensures widths { HoldsRegisters result.held }
+    ensures stretches { length (stretches result.written.changed.items) ≤ 135 }
+    ensures follows { IsTrue (P.seen a.old).exact → IsTrue (Q.seen b.old).exact
+        → (c : Config) (x : Model) → c.threshold ≡ threshold
+        → IsBefore c journal.old.turn cpu held (Z.seen z.old) memory.old.bytes side.old pool.old x
+        → Followed c cpu (Z.seen z.old) (Z.seen z.new) memory.new.bytes side.new pool.new
+        journal.new.entries.items result x
+        (turned (Z.seen z.old).lines c x (kinds.Turns cpu)) }
+{
+    turn_in_mode(held, cpu, threshold, memory, side, pool, z, a, b, journal)
 }

@@ -1,35 +1,26 @@
--- A turn by what is held.
-use Rattle.std.proofs.Common.{subst, sym}
-use Rattle.core_turns.specs.declared.held.Held.{Held}
-use Rattle.core_turns.specs.declared.held.Held.TheVariants.{Lost}
-use Rattle.core_turns.specs.declared.outcomes.Outcome.{Outcome}
-use Rattle.core_turns.specs.declared.outcomes.Outcome.TheVariants as outcome
-use Rattle.core_turns.specs.Giving.{TurnGives}
-use Rattle.core_turns.specs.Journals.{IsBlank}
-use Rattle.core_turns.specs.Held.{core_of}
-use Rattle.core_turns.specs.Meeting.{TurnGoes}
-use Rattle.core_turns.proofs.Goes.{quits_as, goes_gone}
+-- A turn is a row of the table by what it met, and so what the definitions say.
+use Rattle.std.proofs.Common.{sym, subst, ℕ}
+use Rattle.core_turns.specs.ChipAfter.{TurnChanges}
+use Rattle.core_turns.specs.Meeting.{TurnGoes, why_met}
+use Rattle.core_turns.proofs.Followed.{followed, storable}
+use Rattle.core_turns.proofs.Following.{sure_by}
 use Rattle.core_turns.proofs.turning.turn_held.Goals as goal
 
-pub returns-in-Recovering-clause-gives : goal.returns-in-Recovering-clause-gives
-returns-in-Recovering-clause-gives g c = λ sure.
-    subst (λ (h : Held). TurnGives c.args.cpu.0 h c.args.memory.now.bytes c.args.side.now
-    c.turn_recovering.new.journal.entries.items c.turn_recovering.result
-    c.args.memory.now.bytes c.turn_recovering.new.side) (sym c.in-Recovering.is)
-    (c.turn_recovering.ensures.gives c.args.memory.now.bytes)
-
-pub returns-in-Lost-clause-goes : goal.returns-in-Lost-clause-goes
-returns-in-Lost-clause-goes g c =
-    let j = c.args.journal.now in
-    let i = c.args.cpu.0 in
+pub returns-clause-follows : goal.returns-clause-follows
+returns-clause-follows g c = λ ea eb conf x same before.
+    let e = c.turn_in_mode.ensures in
     let z = g.Z.Silicon.seen c.args.z.now in
-    let x = c.in-Lost.core in
-    let r = c.in-Lost.retries in
-    subst (λ (h : Held). TurnGoes c.args.threshold j.turn i h c.args.side.now c.args.pool.now z
-    j.entries.items c.end_idle.result.outcome c.end_idle.result.held c.args.pool.now)
-    (sym c.in-Lost.is)
-    (quits_as (λ (h : Held) (came : Outcome). TurnGoes c.args.threshold j.turn i (Lost x r)
-    c.args.side.now c.args.pool.now z j.entries.items came h c.args.pool.now)
-    (Lost x r) outcome.Idle c.end_idle.result c.end_idle.ensures.turned
-    (goes_gone c.args.threshold j i x r c.args.side.now c.args.pool.now z
-    (subst (λ (h : Held). IsBlank j i (core_of h)) c.in-Lost.is c.requires.blank)))
+    let turned = c.turn_in_mode.result in
+    followed conf c.args.journal.now.turn c.args.cpu c.args.held z _ _ _ _ _ _ _ _ turned x
+    (record {
+      goes = subst (λ (t : ℕ). TurnGoes t c.args.journal.now.turn c.args.cpu.0 c.args.held
+          c.args.side.now c.args.pool.now z c.turn_in_mode.new.journal.entries.items
+          turned.outcome turned.held c.turn_in_mode.new.pool) (sym same) e.goes;
+      chip = subst (λ (t : ℕ). TurnChanges t c.args.cpu.0 c.args.held c.args.side.now
+          c.args.pool.now (why_met z c.args.held turned.outcome) turned.held z
+          (g.Z.Silicon.seen c.turn_in_mode.new.z)) (sym same) e.chip;
+      gives = λ within. e.gives (sure_by turned.outcome _ _ z _ ea eb within);
+      recovers = e.recovered;
+      sure = e.causes ea eb;
+      fits = storable turned.held e.widths;
+    }) before
