@@ -1,21 +1,20 @@
 -- clap's walk over a command's words agrees with `given`.
-use Rattle.std.proofs.Common.{◌≡◌, ◌∙◌, ℕ, ◌||◌, ◌&&◌, Bool, true, false, not, cond, List, [], ◌∷◌, ◌++◌, Option, Some, None, refl, ap, ap₂, sym, subst, true≢false}
+use Rattle.std.proofs.Common.{◌≡◌, ◌∙◌, Bool, true, false, cond, List, [], ◌∷◌, ◌++◌, Option, Some, None, refl, ap, ap₂, sym, subst, true≢false}
 use Rattle.std.specs.List.{fold}
-use Rattle.std.specs.Option.{option_map, unwrap_or, is_some, option_and_then}
-use Rattle.std.specs.Str.{bytes_eq, chars}
-use Rattle.std.specs.Prelude.{slice_get}
-use Rattle.clap.specs.Lexer.{long_of, short_of}
+use Rattle.std.specs.Option.{option_map, unwrap_or, is_some}
+use Rattle.std.specs.Str.{bytes_eq}
+use Rattle.clap.specs.Lexer.{long_of}
 use Rattle.clap.specs.Kinds.{Kinds, or_else}
-use Rattle.clap.specs.Walk.{Row, Rule, Walk, Waiting, Held, idle, option, positional, walked, used, settled_rows, all_of, has_row}
+use Rattle.clap.specs.Walk.{Row, Walk, Waiting, idle, option, positional, walked, used, settled_rows, all_of, has_row}
 use Rattle.clap.specs.Faults.{walk_fault, turn_fault, settle_fault, react_fault}
 use Rattle.clap.specs.declared.error.kind.ErrorKind.{ErrorKind}
 use Rattle.clap.specs.declared.error.kind.ErrorKind.TheVariants as kind
 use Rattle.clap.specs.declared.builder.value_parser.Reading.TheVariants.{AsWritten}
-use Rattle.program_model.specs.Given.{Text, Given, Next, any, value_of, only_names, is_name, knows, option_value, option_of, option_met, given_from, with_name, with_option, any_word}
+use Rattle.program_model.specs.Given.{Text, Given, Next, any, value_of, only_names, is_name, knows, option_value, option_met, given_from, with_name, with_option, any_word}
 use Rattle.g5_words.specs.ClapCommand.{names_id}
 use Rattle.g5_words.proofs.Views.{View, dashes, plain, long, short, Spelt, view, dash_dash}
-use Rattle.g5_words.proofs.Rows.{same, is_same, and_false, put, all_same, all_other, without_none, has_all}
-use Rattle.g5_words.proofs.Leaf.{leaf, rules_for, option_rule, names_rule, by_id, by_names_id}
+use Rattle.g5_words.proofs.Rows.{same, is_same, put, all_same, all_other, without_none, has_all}
+use Rattle.g5_words.proofs.Leaf.{option_rule, by_id, by_names_id}
 use Rattle.g5_words.proofs.Turns.{at, held, Free, or_else_nil, s, rules, settling, trailing_turn, trailing_walked, plain_turn, plain_walked, value_turn, value_walked, value_missing, dashes_turn, dashes_walked, short_turn, unknown_turn, given_turn, given_walked, begun_turn, begun_walked}
 
 -- each word is text
@@ -166,19 +165,22 @@ module _ (name : Text) (known : List Text) where
   follows_step rows p waiting false word words none rest (passes_on u b) =
       let q = settled_rows (rules name known) p rows in
       let one = total_next (at rows p waiting false) (at rows p waiting true) word words [] (dashes_turn name known rows p waiting word b) (dashes_walked name known rows p waiting word b) in
-      let two = total_next (at q None waiting false) (at q None waiting true) word words [] (dashes_turn name known q None waiting word b) (dashes_walked name known q None waiting word b) in
-      (one ∙ rest.0 ∙ sym two,
-      λ n. ap (λ (v : Walk). ended v words) (dashes_walked name known rows p waiting word b) ∙ rest.1 (sym two ∙ n) ∙ ap (λ (v : Walk). ended v words) (sym (dashes_walked name known q None waiting word b)))
-  follows_step rows p waiting t word words none rest (fails k ks e f) =
-      (total_next (at rows p waiting t) (walked (rules name known) [] (at rows p waiting t) word) word words (k ∷ ks) e refl
-      ∙ sym (total_next (settled_at rows p waiting t) (walked (rules name known) [] (settled_at rows p waiting t) word) word words (k ∷ ks) f refl),
-      λ n. absurd (total_stop (settled_at rows p waiting t) word words k ks f n))
+      let two = total_next (at q None waiting false) (at q None waiting true) word words [] (dashes_turn name known q None waiting word b) (dashes_walked name known q None waiting word b) in (
+        one ∙ rest.0 ∙ sym two,
+        λ n. ap (λ (v : Walk). ended v words) (dashes_walked name known rows p waiting word b) ∙ rest.1 (sym two ∙ n) ∙ ap (λ (v : Walk). ended v words) (sym (dashes_walked name known q None waiting word b)),
+      )
+  follows_step rows p waiting t word words none rest (fails k ks e f) = (
+    total_next (at rows p waiting t) (walked (rules name known) [] (at rows p waiting t) word) word words (k ∷ ks) e refl
+        ∙ sym (total_next (settled_at rows p waiting t) (walked (rules name known) [] (settled_at rows p waiting t) word) word words (k ∷ ks) f refl),
+    λ n. absurd (total_stop (settled_at rows p waiting t) word words k ks f n),
+  )
   follows_step rows p waiting t word words none rest (settles e f) =
       let after = walked (rules name known) [] (settled_at rows p waiting t) word in
-      let turn = turn_fault (s name known) [] (settled_at rows p waiting t) word in
-      (total_next (at rows p waiting t) after word words turn (e ∙ ap (λ k. or_else k turn) none) f
-      ∙ sym (total_next (settled_at rows p waiting t) after word words turn refl refl),
-      λ n. ap (λ (v : Walk). ended v words) f)
+      let turn = turn_fault (s name known) [] (settled_at rows p waiting t) word in (
+        total_next (at rows p waiting t) after word words turn (e ∙ ap (λ k. or_else k turn) none) f
+            ∙ sym (total_next (settled_at rows p waiting t) after word words turn refl refl),
+        λ n. ap (λ (v : Walk). ended v words) f,
+      )
 
   follows_nil : (rows : List Row) (p : Option (Text × List Text)) (waiting : Waiting) (t : Bool) → settling name known rows p ≡ [] → Follows (at rows p waiting t) (settled_at rows p waiting t) []
   follows_nil rows p waiting t none = (total_nil rows p waiting t ∙ none ∙ sym (total_nil (settled_rows (rules name known) p rows) None waiting t), λ n. refl)

@@ -1,23 +1,13 @@
 -- clap's walk over the words of a command with options of one value and one list of names.
-use Rattle.std.proofs.Common.{◌≡◌, ◌∙◌, ℕ, ◌||◌, ◌&&◌, ◌==◌, Bool, true, false, not, cond, zero, suc, List, [], ◌∷◌, ◌++◌, map, Option, Some, None, refl, ap, ap₂, sym, subst, true≢false, codes}
-use Rattle.std.specs.List.{find, list_any, fold}
-use Rattle.std.specs.Option.{option_map, option_map_or, unwrap_or, is_some, option_and_then}
-use Rattle.std.specs.Str.{bytes_eq, chars}
-use Rattle.std.specs.Prelude.{slice_get, length}
-use Rattle.clap.specs.Lexer.{long_of, short_of}
-use Rattle.clap.specs.Kinds.{Kinds, or_else}
-use Rattle.clap.specs.Walk.{Row, Rule, Walk, Waiting, Held, idle, option, positional, walked, used, settled, settled_rows, all_of, has_row, reacted, arg_by_id, arg_by_long, arg_by_short, arg_by_index}
+use Rattle.std.proofs.Common.{◌≡◌, ◌∙◌, ℕ, ◌||◌, Bool, true, false, cond, List, [], ◌∷◌, ◌++◌, map, Some, None, refl, ap, sym, true≢false}
+use Rattle.std.specs.Str.{bytes_eq}
+use Rattle.clap.specs.Walk.{Rule, arg_by_id, arg_by_long, arg_by_short, arg_by_index}
 use Rattle.clap.specs.Simple.{Shape, new_rule, new_shape}
-use Rattle.clap.specs.Faults.{walk_fault, turn_fault, settle_fault, flags_fault}
 use Rattle.clap.specs.declared.builder.action.ArgAction.TheVariants.{Set, Append}
-use Rattle.clap.specs.declared.builder.value_parser.Reading.TheVariants.{AsWritten}
 use Rattle.clap.specs.declared.builder.value_parser.ValueParser.TheVariants as vp
-use Rattle.clap.specs.declared.error.kind.ErrorKind.{ErrorKind}
-use Rattle.program_model.specs.Given.{Text, Given, Next, any, value_of, only_names, is_name, knows, option_value, given_from, with_name, with_option}
+use Rattle.program_model.specs.Given.{Text, knows}
 use Rattle.g5_words.specs.ClapCommand.{names_id}
-use Rattle.g5_words.proofs.Views.{View, dashes, plain, long, short, Spelt, view, dash_dash}
-use Rattle.g5_words.proofs.Rows.{same, is_same, or_false, or_true, and_false, put, all_same, all_other, without_none, has_all}
-
+use Rattle.g5_words.proofs.Rows.{same}
 
 -- an option and the list of names, as a build fills them in
 abbrev pub option_rule : Text → Rule

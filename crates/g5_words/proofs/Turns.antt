@@ -1,19 +1,18 @@
 -- One word of clap's walk over a command with options of one value and one list of names.
-use Rattle.std.proofs.Common.{◌≡◌, ◌∙◌, ℕ, ◌||◌, ◌&&◌, Bool, true, false, cond, zero, suc, List, [], ◌∷◌, Option, Some, None, refl, ap, ap₂, sym}
-use Rattle.std.specs.List.{fold}
+use Rattle.std.proofs.Common.{◌≡◌, ℕ, Bool, true, false, List, [], ◌∷◌, Option, Some, None, refl}
 use Rattle.std.specs.Str.{bytes_eq, chars}
 use Rattle.std.specs.Prelude.{slice_get}
 use Rattle.clap.specs.Lexer.{long_of, short_of}
 use Rattle.clap.specs.Kinds.{Kinds, or_else}
 use Rattle.clap.specs.Walk.{Row, Walk, Waiting, Held, Rule, idle, option, positional, walked, used, settled_rows}
 use Rattle.clap.specs.Simple.{Shape}
-use Rattle.clap.specs.Faults.{walk_fault, turn_fault, settle_fault, react_fault, flags_fault}
+use Rattle.clap.specs.Faults.{turn_fault, settle_fault, react_fault, flags_fault}
 use Rattle.clap.specs.declared.error.kind.ErrorKind.TheVariants as kind
 use Rattle.program_model.specs.Given.{Text, knows}
 use Rattle.g5_words.specs.ClapCommand.{names_id}
-use Rattle.g5_words.proofs.Views.{View, dashes, plain, long, short, Spelt, view, dash_dash}
+use Rattle.g5_words.proofs.Views.{dash_dash}
 use Rattle.g5_words.proofs.Rows.{is_same, and_false}
-use Rattle.g5_words.proofs.Leaf.{leaf, rules_for, option_rule, names_rule, by_index, by_short, by_long, by_id, by_names_id}
+use Rattle.g5_words.proofs.Leaf.{leaf, rules_for, option_rule, by_index, by_short, by_long, by_id}
 
 pub or_else_nil : (k : Kinds) → or_else k [] ≡ k
 or_else_nil [] = refl

@@ -1,7 +1,7 @@
 -- The whole parse of a command's words.
-use Rattle.std.proofs.Common.{◌≡◌, ◌∙◌, ℕ, ◌||◌, ◌&&◌, Bool, true, false, not, cond, List, [], ◌∷◌, ◌++◌, map, drop, Option, Some, None, Result, Ok, Err, refl, ap, ap₂, sym, subst, true≢false, codes, inl, inr}
-use Rattle.std.specs.List.{fold, find, list_any, list_all}
-use Rattle.std.specs.Option.{option_map, unwrap_or, is_some, option_and_then, option_map_or}
+use Rattle.std.proofs.Common.{◌≡◌, ◌∙◌, ◌&&◌, Bool, true, false, not, cond, List, [], ◌∷◌, drop, Option, Some, None, refl, ap, ap₂, sym, subst, inl, inr}
+use Rattle.std.specs.List.{fold, find, list_any}
+use Rattle.std.specs.Option.{option_map, unwrap_or, is_some, option_and_then}
 use Rattle.std.specs.Prelude.{slice_get}
 use Rattle.std.specs.Str.{bytes_eq}
 use Rattle.clap.specs.Kinds.{Kinds, or_else, HasKind, IsAmong}
@@ -9,16 +9,16 @@ use Rattle.clap.specs.Values.{kind_of}
 use Rattle.clap.specs.declared.error.Error.{Error}
 use Rattle.clap.specs.declared.error.kind.ErrorKind.TheVariants.{OutOfMemory}
 use Rattle.clap.specs.Walk.{Row, Rule, Walk, idle, walked, walk, walk_from, nothing_held, with_default, has_row, all_of, first_of, rows_of, finished, settled, rows_after}
-use Rattle.clap.specs.Simple.{App, Shape, built, is_simple, matches_of, argument_words, entered, names_of}
-use Rattle.clap.specs.Faults.{fault_of, level_fault, walk_fault, settle_fault, defaults_fault, check_fault, entered_fault, is_simple_and_free, built_fault}
+use Rattle.clap.specs.Simple.{App, built, is_simple, matches_of, entered, names_of}
+use Rattle.clap.specs.Faults.{fault_of, level_fault, walk_fault, settle_fault, defaults_fault, entered_fault, is_simple_and_free, built_fault}
 use Rattle.clap.specs.Matches.{found_of, first_value, matched_of, raw_values}
 use Rattle.clap.specs.declared.parser.matches.Found.{Found}
 use Rattle.clap.specs.declared.parser.matches.ArgMatches.{ArgMatches}
 use Rattle.clap.proofs.WalkLemmas.{first_value-rows, raw_values-rows}
-use Rattle.program_model.specs.Given.{Text, Given, Next, any, knows, option_value, given, given_from, nothing}
+use Rattle.program_model.specs.Given.{Text, Given, knows, option_value, given, nothing}
 use Rattle.program_model.specs.Commands.{options_if}
 use Rattle.g5_words.specs.ClapCommand.{program_name, names_id, app_for}
-use Rattle.g5_words.specs.Found.{Finds, IsFound}
+use Rattle.g5_words.specs.Found.{IsFound}
 use Rattle.g5_words.proofs.Rows.{or_true}
 use Rattle.g5_words.proofs.Leaf.{leaf, rules_for, option_rule, names_rule}
 use Rattle.g5_words.proofs.Turns.{at, or_else_nil}

@@ -76,7 +76,11 @@ fn refusal_of(error: &Error) -> WordsRefused
 
 /// The names and options of the words after the first. Clap passes over the first word, which it
 /// takes for the program's name.
-pub fn parted<'a>(alloc: Global, has_options: bool, words: &'a [String]) -> Result<ArgMatches<'a>, WordsRefused>
+pub fn parted<'a>(
+    alloc: Global,
+    has_options: bool,
+    words: &'a [String],
+) -> Result<ArgMatches<'a>, WordsRefused>
     ensures found { IfOk result
         (IsFound (given (options_if has_options) (drop 1 (map string_bytes words.now)))) }
     ensures usage { IfErr result (λ e. e ≡ WordsRefused.Usage

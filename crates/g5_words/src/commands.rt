@@ -37,23 +37,52 @@ pub struct ResumeNames<'a> {
 #[derive(Debug, Drop, PartialEq, Eq)]
 pub enum Command<'a> {
     /// Runs a deck.
-    Run { job: JobNames<'a>, config: Config },
+    Run {
+        job: JobNames<'a>,
+        config: Config,
+    },
     /// Answers questions about a deck that runs.
-    Debug { session: SessionNames<'a>, config: Config },
+    Debug {
+        session: SessionNames<'a>,
+        config: Config,
+    },
     /// Runs the deck that a number generates, for 1 to 1,000,000 turns.
-    Gen { number: u32, turns: u32 },
+    Gen {
+        number: u32,
+        turns: u32,
+    },
     /// Brings a log of version 1 to version 2.
-    Migrate { old: &'a str, new: &'a str },
+    Migrate {
+        old: &'a str,
+        new: &'a str,
+    },
     /// Assembles a deck.
-    Asm { source: &'a str, deck: &'a str },
+    Asm {
+        source: &'a str,
+        deck: &'a str,
+    },
     /// Shows 1 to 1,000 instructions of a deck, from an address of 24 bits on.
-    Dis { deck: &'a str, address: u32, count: u32 },
+    Dis {
+        deck: &'a str,
+        address: u32,
+        count: u32,
+    },
     /// Links 1 to 16 decks into one.
-    Link { out: &'a str, decks: ArrayVec<&'a str, 16> },
+    Link {
+        out: &'a str,
+        decks: ArrayVec<&'a str, 16>,
+    },
     /// Runs a deck for 0 to 1,000,000 turns and saves the machine.
-    Save { turns: u32, job: JobNames<'a>, save: &'a str, config: Config },
+    Save {
+        turns: u32,
+        job: JobNames<'a>,
+        save: &'a str,
+        config: Config,
+    },
     /// Goes on from a save.
     Resume(ResumeNames<'a>),
     /// Judges a log.
-    Audit { log: &'a str },
+    Audit {
+        log: &'a str,
+    },
 }

@@ -212,7 +212,11 @@ fn audit<'a>(names: &[&'a str]) -> Option<Command<'a>>
 /// What a command makes of its names and its configuration, None exactly where they are not of
 /// its form.
 #[tactic(auto, unfolding(program_model::specs::Commands::form))]
-pub fn command_from<'a>(kind: Kind, names: &[&'a str], config: Option<Config>) -> Option<Command<'a>>
+pub fn command_from<'a>(
+    kind: Kind,
+    names: &[&'a str],
+    config: Option<Config>,
+) -> Option<Command<'a>>
     requires { IfSome config IsInLimits }
     ensures value { option_map asked_by result ≡ form kind (map (λ n. n.now) names.now) config }
     ensures sound { IfSome result IsSound }

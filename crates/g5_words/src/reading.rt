@@ -1,7 +1,7 @@
 // The command that the words give.
 ghost use Rattle.std.specs.Prelude.{◌≡◌, IfOk, IfErr, IfSome, Some, None, map, drop, option_map, string_bytes};
 ghost use Rattle.clap.specs.Matches.{found_of, first_value};
-ghost use Rattle.program_model.specs.Commands.{form, config_by, kind_named, has_options as takes_options_text, command, command_after};
+ghost use Rattle.program_model.specs.Commands.{form, config_by, kind_named, has_options as kind_has_options, command, command_after};
 ghost use Rattle.g5_words.specs.Asked.{asked_by};
 ghost use Rattle.g5_words.specs.Found.{names_in};
 ghost use Rattle.g5_words.specs.Ranges.{IsSound};
@@ -36,7 +36,7 @@ fn kind_of(word: &str) -> Option<Kind>
 
 // Whether a command has a machine, and so its options.
 fn has_options(kind: Kind) -> bool
-    ensures { result ≡ takes_options_text kind }
+    ensures { result ≡ kind_has_options kind }
 {
     matches!(kind, Kind::Run | Kind::Debug | Kind::Save)
 }
@@ -54,7 +54,11 @@ fn command_in<'a>(kind: Kind, matches: &ArgMatches<'a>) -> Option<Command<'a>>
 }
 
 // The command of this kind that the words after the first give.
-fn command_of_kind<'a>(alloc: Global, kind: Kind, words: &'a [String]) -> Result<Command<'a>, WordsRefused>
+fn command_of_kind<'a>(
+    alloc: Global,
+    kind: Kind,
+    words: &'a [String],
+) -> Result<Command<'a>, WordsRefused>
     ensures ok { IfOk result (λ c.
         command_after (drop 1 (map string_bytes words.now)) (Some kind) ≡ Some (asked_by c)) }
     ensures usage { IfErr result (λ e. e ≡ WordsRefused.Usage

@@ -1,8 +1,6 @@
-use Rattle.std.proofs.Common.{◌≡◌, ◌∙◌, ap, ap₂, true, refl, codes}
+use Rattle.std.proofs.Common.{◌∙◌, ap₂}
 use Rattle.std.proofs.lemmas.Result.{IfOk-weaker}
-use Rattle.clap.specs.Simple.{App, app_of, with_rule}
-use Rattle.clap.specs.Walk.{rule_of}
-use Rattle.g5_words.specs.ClapCommand.{bare_app, option_arg}
+use Rattle.clap.specs.Simple.{with_rule}
 use Rattle.g5_words.proofs.clap_words.machine_command.Goals as goal
 
 pub returns : goal.returns

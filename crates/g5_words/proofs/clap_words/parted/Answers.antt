@@ -1,9 +1,7 @@
-use Rattle.std.proofs.Common.{◌≡◌, ◌∙◌, ap, sym, subst, refl, rules, List, [], map, drop, Result, Ok, Err, MatchResult, true, false}
+use Rattle.std.proofs.Common.{◌∙◌, ap, sym, map}
 use Rattle.std.specs.Prelude.{string_bytes}
 use Rattle.clap.specs.Simple.{App, app_of, is_simple, matches_of}
 use Rattle.clap.specs.Faults.{fault_of, is_simple_and_free}
-use Rattle.program_model.specs.Commands.{options_if}
-use Rattle.g5_words.specs.ClapCommand.{app_for}
 use Rattle.g5_words.proofs.Whole.{found_where, none_where_fails, simple_is, is_simple_is, no_kind}
 use Rattle.g5_words.proofs.Texts.{rest_spelt}
 use Rattle.g5_words.proofs.clap_words.parted.Goals as goal

@@ -1,4 +1,4 @@
-use Rattle.std.proofs.Common.{rules, ◌≡◌, ◌∙◌, ◌<◌, ◌^◌, Some, IfSome, true, length, refl, sym, subst}
+use Rattle.std.proofs.Common.{rules, ◌≡◌, ◌∙◌, ◌<◌, ◌^◌, IfSome, true, length, refl, sym, subst}
 use Rattle.std.specs.List.{list_all}
 use Rattle.program_model.specs.Addresses.{address, is_capital_digit}
 use Rattle.g5_words.proofs.Hexadecimals.{six_read, six_below}
