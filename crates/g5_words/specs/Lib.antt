@@ -1,0 +1,4 @@
+pub mod ClapCommand
+pub mod Found
+pub mod Asked
+pub mod Ranges
