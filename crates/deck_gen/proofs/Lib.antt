@@ -2,6 +2,7 @@ pub mod Drawn
 pub mod DrawnStrikes
 pub mod Lengths
 pub mod Lines
+pub mod ReadDeck
 pub mod ReadLines
 pub mod ReadRuns
 pub mod Reading

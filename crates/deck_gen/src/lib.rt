@@ -8,6 +8,8 @@ mod generating;
 mod puts;
 mod schedules;
 mod strikes;
+#[cfg(test)]
+mod tests;
 
 pub use esa_model::memory::NoMemory;
 pub use generating::{Generated, generate};
