@@ -1,0 +1,11 @@
+pub mod Drawn
+pub mod DrawnStrikes
+pub mod Lengths
+pub mod Lines
+pub mod ReadDeck
+pub mod ReadLines
+pub mod ReadRuns
+pub mod Reading
+pub mod Runs
+pub mod Splits
+pub mod TextCards
