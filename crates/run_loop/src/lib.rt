@@ -4,8 +4,12 @@
 
 mod counting;
 mod engine;
+mod laws;
+mod running;
 mod turning;
 mod writing;
 
 pub use engine::{Engine, Turn};
+pub use laws::{counts_of_sound_turns, front_of_turns, pieces_of_sound_turns, texts_begin, told_by_turns};
+pub use running::{make_run, make_runs};
 pub use turning::make_turn;
