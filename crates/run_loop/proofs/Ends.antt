@@ -1,12 +1,12 @@
 -- What the loop's clause says to a reader.
-use Rattle.std.proofs.Common.{◌≡◌, ℕ, suc, ◌+◌, ◌<◌, ◌≤◌, List, [], ◌∷◌, ◌++◌, length, take, drop, refl, sym, ap, ◌∙◌, subst, arith, append-nil, append_assoc, inl, inr, Result, Ok, Err}
-use Rattle.std.specs.Prelude.{⊤, map, IsTrue}
+use Rattle.std.proofs.Common.{◌≡◌, ℕ, suc, ◌<◌, ◌≤◌, List, [], ◌∷◌, ◌++◌, length, take, drop, sym, ap, ◌∙◌, subst, arith, append-nil, append_assoc, inl, inr, Result, Ok, Err}
+use Rattle.std.specs.Prelude.{map, IsTrue}
 use Rattle.std.specs.List.{All}
 use Rattle.std.proofs.lemmas.Bool.{cases_lt}
 use Rattle.std.proofs.lemmas.List.{take_all, take-append-drop, length-take-le, take-take}
 use Rattle.std.proofs.lemmas.List.Elements.{All-take}
 use Rattle.g5_outside.specs.Views.{ShelfView, SinkView}
-use Rattle.g5_writing.specs.Outputs.{Grew, Puts}
+use Rattle.g5_writing.specs.Outputs.{Puts}
 use Rattle.g5_writing.specs.declared.outputs.OutputFiles.{OutputFiles}
 use Rattle.g5_writing.proofs.Putting.{puts_stop, text-append}
 use Rattle.run_model.specs.declared.logs.Config.{Config}
@@ -17,7 +17,7 @@ use Rattle.run_model.specs.declared.schedules.RunKind.TheVariants.{Turns, Key, R
 use Rattle.run_model.specs.Cores.{Choice, first_cores}
 use Rattle.run_model.specs.Counts.{commits_after, count_turns, none_made}
 use Rattle.run_model.specs.Pieces.{Piece, text}
-use Rattle.run_model.specs.Runs.{Model, Told, run_tells, run_after}
+use Rattle.run_model.specs.Runs.{Model, Told, run_tells}
 use Rattle.run_model.specs.Schedule.{Fits}
 use Rattle.run_model.specs.Texts.{turns_pieces}
 use Rattle.run_laws.specs.Runs.{ValidKind, ValidTurns}
@@ -101,7 +101,7 @@ pub front_run : {E : Type 0} (files : OutputFiles) (start : Counts) (ks : List R
     → SoundAfter old x (take j ks)
     → PutsFront files (turns_pieces start.commits (tells_by old x (take j ks))) a b o p r
 front_run files start ks old new a b o p r x j m h le sound = elim (cases_lt m.made j) [
-    inl lt ↦ cut_front files start ks old new a b o p r x j m h lt le sound
+  | inl lt ↦ cut_front files start ks old new a b o p r x j m h lt le sound
   | inr made ↦ made_front files start ks old new a b o p r x j m h made sound
 ]
 
@@ -141,9 +141,10 @@ pub sound_counts : {E : Type 0} (files : OutputFiles) (start : Counts) (ks : Lis
     → (n ≡ count_turns start (tells_by old x ks)) × new.stands (state_by old x ks)
 sound_counts files start ks old new a b o p n x m h sound =
     let made : take m.made ks ≡ ks = take_all m.made ks (omega (arith, m.all)) in
-    let all : Tells ks m.told old new = subst (λ z. Tells z m.told old new) made m.tells in
-    (m.counted ∙ ap (count_turns start) (all_told ks m.told old new x all h sound),
-    all.stands x h sound)
+    let all : Tells ks m.told old new = subst (λ z. Tells z m.told old new) made m.tells in (
+      m.counted ∙ ap (count_turns start) (all_told ks m.told old new x all h sound),
+      all.stands x h sound,
+    )
 
 -- ---- texts of outputs that are told
 
@@ -191,16 +192,17 @@ valid_turns : (c : Config) (xs : List Choice) (ks : List RunKind)
 valid_turns c [] ks e h = tt
 valid_turns c (x ∷ xs) [] e h = absurd (cc e)
 valid_turns c (x ∷ xs) (k ∷ ks) e h =
-    let tail : All (λ j. Fits c.cpus j) ks = λ i d lt. h (suc i) d (omega (arith, lt)) in
-    (subst (ValidKind c) (cc e) (valid_kind c k (h 0 k (omega arith))),
-    valid_turns c xs ks (cc e) tail)
+    let tail : All (λ j. Fits c.cpus j) ks = λ i d lt. h (suc i) d (omega (arith, lt)) in (
+      subst (ValidKind c) (cc e) (valid_kind c k (h 0 k (omega arith))),
+      valid_turns c xs ks (cc e) tail,
+    )
 
 -- what an engine at its start told is what some turns of CPUs that it has tell
 pub told_by_turns : {E : Type 0} (files : OutputFiles) (ks : List RunKind)
     (old new : EngineView) (a b : ShelfView) (o p : SinkView) (r : Result Counts E)
     → (m : MakesFrom files none_made ks old new a b o p r)
     → old.stands_by_mode (first_cores old.config) → All (λ k. Fits old.config.cpus k) ks
-    → ToldByTurns old.config m.told
+    → ToldByTurns old new m.told
 told_by_turns files ks old new a b o p r m h fits =
     let by = m.tells.by_mode (first_cores old.config) h in
     record {
@@ -208,4 +210,5 @@ told_by_turns files ks old new a b o p r m h fits =
       valid = valid_turns old.config by.choices (take m.made ks) by.kinds_are
           (All-take (λ k. Fits old.config.cpus k) m.made ks fits);
       tells = by.outlines_are;
+      stands = by.stands;
     }

@@ -1,30 +1,21 @@
 -- Turns that are made one after another: those of a run, and the runs of a schedule.
-use Rattle.std.proofs.Common.{◌≡◌, ℕ, zero, suc, ◌+◌, ◌*◌, ◌<◌, ◌≤◌, List, [], ◌∷◌, ◌++◌, length, take, drop, get_or, refl, sym, ap, ◌∙◌, subst, arith, length-append, append-nil, append_assoc, Result, Ok, Err}
-use Rattle.std.specs.Prelude.{replicate}
-use Rattle.std.specs.List.{flat_map, sum_by, All}
-use Rattle.std.proofs.Math.Seq.{take-append-add, split_at}
-use Rattle.std.proofs.lemmas.Grind.{flat_map-append}
-use Rattle.std.proofs.lemmas.List.{take_all, take-append-le, take_more, take-replicate, length-replicate}
-use Rattle.std.proofs.lemmas.List.Concat.{length-flat_map}
-use Rattle.std.proofs.lemmas.List.Elements.{All-get_or}
-use Rattle.std.proofs.lemmas.List.Sums.{sum_by_more, sum_by_more_le, sum_by-take-le}
+use Rattle.std.proofs.Common.{◌≡◌, ℕ, ◌+◌, ◌≤◌, List, [], ◌∷◌, ◌++◌, length, take, refl, sym, ap, ◌∙◌, subst, arith, length-append, append-nil, Result, Ok, Err}
+use Rattle.std.proofs.Math.Seq.{take-append-add}
+use Rattle.std.proofs.lemmas.List.{take_all, take-append-le}
 use Rattle.g5_outside.specs.Views.{ShelfView, SinkView, Gave}
 use Rattle.g5_writing.specs.Outputs.{Grew, HasFiles, Puts}
 use Rattle.g5_writing.specs.declared.outputs.OutputFiles.{OutputFiles}
-use Rattle.g5_writing.proofs.Putting.{grew_none, grew_more, puts_then, puts_grew}
+use Rattle.g5_writing.proofs.Putting.{grew_none, puts_then, puts_grew}
 use Rattle.run_model.specs.declared.outputs.Counts.{Counts}
-use Rattle.run_model.specs.declared.schedules.Run.{Run}
 use Rattle.run_model.specs.declared.schedules.RunKind.{RunKind}
-use Rattle.run_model.specs.Counts.{commits_by, commits_after, count_turn, count_turns}
+use Rattle.run_model.specs.Counts.{commits_by, commits_after, count_turns}
 use Rattle.run_model.specs.Pieces.{Piece}
 use Rattle.run_model.specs.Runs.{Told}
-use Rattle.run_model.specs.Schedule.{Fits, kinds_of, turns_of}
 use Rattle.run_model.specs.Texts.{turn_pieces, turns_pieces}
 use Rattle.run_laws.proofs.Summing.{commits_counted}
 use Rattle.run_loop.specs.Engines.{EngineView}
 use Rattle.run_loop.specs.Making.{Tells, MakesTurn, MakesFrom}
-use Rattle.run_loop.specs.Bounds.{Below}
-use Rattle.run_loop.proofs.Rising.{below_more, commits_rise}
+use Rattle.run_loop.proofs.Rising.{commits_rise}
 use Rattle.run_loop.proofs.Joining.{pieces_append, counts_append}
 use Rattle.run_loop.proofs.Telling.{tells_none, tells_one, tells_then}
 

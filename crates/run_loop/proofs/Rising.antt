@@ -1,5 +1,5 @@
 -- Counts rise by at most one at a log entry and at a turn.
-use Rattle.std.proofs.Common.{◌≡◌, ℕ, ◌+◌, ◌<◌, ◌≤◌, List, [], ◌∷◌, length, drop, drop_of_length-le, arith, refl, sym, ap, ◌∙◌, get_or}
+use Rattle.std.proofs.Common.{◌≡◌, ℕ, ◌+◌, ◌<◌, ◌≤◌, List, length, drop, drop_of_length-le, arith, refl, sym, ap, ◌∙◌, get_or}
 use Rattle.std.specs.Prelude.{Option, Some, None}
 use Rattle.std.proofs.lemmas.List.{drop_more}
 use Rattle.esa_model.specs.declared.machine.Event.{Event}
@@ -8,8 +8,7 @@ use Rattle.run_model.specs.declared.logs.Entry.{Entry}
 use Rattle.run_model.specs.declared.logs.What.{What}
 use Rattle.run_model.specs.declared.logs.What.TheVariants as what
 use Rattle.run_model.specs.declared.outputs.Counts.{Counts}
-use Rattle.run_model.specs.Counts.{commits_by, count_what, count_entries, count_turns}
-use Rattle.run_model.specs.Runs.{Told}
+use Rattle.run_model.specs.Counts.{commits_by, count_what, count_entries}
 use Rattle.run_loop.specs.Bounds.{Below}
 
 pub below_more : (most more : ℕ) (n : Counts) → most ≤ more → Below most n → Below more n

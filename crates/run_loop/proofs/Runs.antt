@@ -1,5 +1,5 @@
 -- The turns of a run, and the runs of a schedule: how many they are, and where the next ones stand.
-use Rattle.std.proofs.Common.{◌≡◌, ℕ, zero, suc, ◌+◌, ◌-◌, ◌*◌, ◌^◌, ◌<◌, ◌≤◌, List, [], ◌∷◌, ◌++◌, length, take, drop, get_or, refl, sym, ap, ◌∙◌, subst, arith, length-append, append-nil, Result, Ok, Err}
+use Rattle.std.proofs.Common.{◌≡◌, ℕ, zero, suc, ◌+◌, ◌-◌, ◌*◌, ◌^◌, ◌<◌, ◌≤◌, List, [], ◌∷◌, ◌++◌, length, take, drop, get_or, refl, sym, ap, ◌∙◌, subst, arith, length-append, append-nil, Ok, Err}
 use Rattle.std.specs.Prelude.{replicate}
 use Rattle.std.specs.List.{flat_map, All}
 use Rattle.std.proofs.Math.Seq.{split_at}
@@ -8,7 +8,6 @@ use Rattle.std.proofs.lemmas.List.{take_all, take_more, length-replicate}
 use Rattle.std.proofs.lemmas.List.Elements.{All-get_or}
 use Rattle.std.proofs.lemmas.List.Sums.{sum_by-cons, sum_by_more, sum_by_more_le, sum_by-take-le}
 use Rattle.g5_outside.specs.Views.{ShelfView, SinkView}
-use Rattle.g5_writing.specs.Outputs.{HasFiles}
 use Rattle.g5_writing.specs.declared.outputs.OutputFiles.{OutputFiles}
 use Rattle.run_model.specs.declared.logs.Config.{Config}
 use Rattle.run_model.specs.declared.outputs.Counts.{Counts}

@@ -1,11 +1,11 @@
 -- What turns told: nothing yet, one turn, and turns after turns.
 use Rattle.std.proofs.Common.{◌≡◌, ℕ, zero, suc, ◌+◌, ◌-◌, ◌<◌, ◌≤◌, List, [], ◌∷◌, ◌++◌, length, take, refl, sym, ap, ◌∙◌, subst, arith, length-append, inl, inr}
 use Rattle.std.specs.Prelude.{map}
-use Rattle.std.proofs.lemmas.Bool.{cases_eq, cases_lt}
+use Rattle.std.proofs.lemmas.Bool.{cases_lt}
 use Rattle.std.proofs.lemmas.List.{take_all, take-append-le, map-append}
 use Rattle.std.proofs.Math.Seq.{take-append-add}
 use Rattle.run_model.specs.declared.schedules.RunKind.{RunKind}
-use Rattle.run_model.specs.Cores.{Cores, Choice, make, outlines, cores_after}
+use Rattle.run_model.specs.Cores.{Cores, Choice, outlines, cores_after}
 use Rattle.run_model.specs.Fate.{Sound}
 use Rattle.run_model.specs.Runs.{Model, Told, tells, turned, run_tells, run_after, outline_of}
 use Rattle.run_loop.specs.Engines.{EngineView, Kept, Obeys, Follows}
@@ -179,7 +179,7 @@ tells_then ks js ts us old mid new a b =
       };
       by_mode = λ s h. by_mode_then s ks js ts us old mid new a.kept (a.by_mode s h) b.by_mode;
       fronts = λ x h j le sound. elim (cases_lt (length ks) j) [
-          inl lt ↦ long_front x ks js ts us old mid new j a b h lt le sound
+        | inl lt ↦ long_front x ks js ts us old mid new j a b h lt le sound
         | inr small ↦ short_front x ks js ts us old mid j a h small sound
       ];
       stands = λ x h sound. seam_stands x ks js ts us old mid new a b h sound;

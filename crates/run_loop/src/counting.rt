@@ -1,6 +1,6 @@
 // What is counted of turns.
 ghost use Rattle.std.specs.Prelude.{◌≡◌, ℕ, ◌+◌, ◌<◌, ◌≤◌, ◌^◌, length};
-ghost use Rattle.run_model.specs.Counts.{commits_by, count_what, count_entries, count_turn};
+ghost use Rattle.run_model.specs.Counts.{commits_by, count_what, count_entries, count_turn, none_made};
 ghost use Rattle.run_loop.specs.Bounds.{Below};
 ghost use Rattle.run_loop.specs.Engines.{told_of};
 
@@ -8,6 +8,22 @@ use crate::engine::Turn;
 use esa_model::machine::Event;
 use run_model::logs::{Entry, What};
 use run_model::outputs::Counts;
+
+/// The counts before the first turn.
+pub fn none_made() -> Counts
+    ensures { result ≡ none_made }
+{
+    Counts {
+        turns: 0,
+        commits: 0,
+        fails: 0,
+        retries: 0,
+        corrected: 0,
+        spared: 0,
+        stopped: 0,
+        returned: 0,
+    }
+}
 
 #[tactic(auto, using(crate::proofs::Rising::below_what))]
 fn count_what(n: Counts, what: What) -> Counts

@@ -1,4 +1,4 @@
-use Rattle.std.proofs.Common.{◌+◌, arith}
+use Rattle.std.proofs.Common.{arith}
 use Rattle.run_loop.proofs.Rising.{counting_start, counting_next, counting_end, below_more}
 use Rattle.run_loop.proofs.counting.count_entries.Goals as goal
 

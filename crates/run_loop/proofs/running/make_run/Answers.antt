@@ -1,4 +1,4 @@
-use Rattle.std.proofs.Common.{◌+◌, ◌*◌, ◌^◌, ◌≡◌, arith, ◌∙◌, sym}
+use Rattle.std.proofs.Common.{◌+◌, ◌*◌, ◌^◌, ◌≡◌, arith}
 use Rattle.run_loop.proofs.Going.{going_files}
 use Rattle.run_loop.proofs.Rising.{below_more}
 use Rattle.run_loop.proofs.Runs.{turning_start, turning_next, turning_failed, turning_done, turn_room, turn_commits, fits_now}

@@ -1,4 +1,3 @@
-use Rattle.std.proofs.Common.{Ok, Err}
 use Rattle.g5_writing.proofs.Putting.{puts_ok_as, puts_err_as}
 use Rattle.run_loop.specs.Engines.{told_of}
 use Rattle.run_loop.proofs.turning.make_turn.Goals as goal

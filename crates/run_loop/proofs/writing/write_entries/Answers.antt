@@ -1,7 +1,7 @@
-use Rattle.std.proofs.Common.{◌+◌, drop, arith}
-use Rattle.g5_writing.proofs.Progress.{left_all, left_less, left_cut, left_none}
+use Rattle.std.proofs.Common.{◌+◌, drop}
+use Rattle.g5_writing.proofs.Progress.{left_less, left_cut}
 use Rattle.run_model.specs.Texts.{entry_pieces}
-use Rattle.run_loop.proofs.Sending.{entries_step, entries_end}
+use Rattle.run_loop.proofs.Sending.{entries_step}
 use Rattle.run_loop.proofs.writing.write_entries.Goals as goal
 
 pub returns-in-Err : goal.returns-in-Err
