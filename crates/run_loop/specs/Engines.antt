@@ -1,0 +1,46 @@
+-- What is seen of an engine that makes turns, and what holds of a turn that it makes.
+-- Source: choice of this project.
+use Rattle.std.specs.Prelude.{◌≡◌, ℕ, List}
+use Rattle.run_model.specs.declared.faults.Strike.{Strike}
+use Rattle.run_model.specs.declared.logs.Config.{Config}
+use Rattle.run_model.specs.declared.schedules.RunKind.{RunKind}
+use Rattle.run_model.specs.Cores.{Cores, Met, make}
+use Rattle.run_model.specs.Runs.{Model, Told, tells, turned, outline_of}
+use Rattle.run_loop.specs.declared.engine.Turn.{Turn}
+
+-- Its fault script, its configuration, and the turns that it made. Whether it is in order for a
+-- turn, whether its modes and retries are those of some cores, and whether it stands for a state
+-- of the model, each engine says for itself.
+pub record EngineView : Type 1 where
+  pub lines : List Strike
+  pub config : Config
+  pub turns : ℕ
+  pub ready : Type 0
+  pub stands_by_mode : Cores → Type 0
+  pub stands : Model → Type 0
+
+-- script and configuration stay
+pub record Kept (old new : EngineView) : Type 0 where
+  pub lines : new.lines ≡ old.lines
+  pub config : new.config ≡ old.config
+
+-- what a turn tells, as the definitions have it
+abbrev pub told_of : Turn → Told
+told_of t = record {
+  entries = t.entries.items;
+  event = t.event;
+  psw = t.psw;
+  changed = t.written.changed.items;
+  console = t.written.console.items;
+}
+
+-- whatever is struck: its entries and its event are what these cores make of what it met
+pub record Obeys (s : Cores) (kind : RunKind) (old new : EngineView) (t : Told) : Type 0 where
+  pub met : Met
+  pub outline : outline_of t ≡ (make old.config s kind met).outline
+  pub stands : new.stands_by_mode (make old.config s kind met).after
+
+-- it tells what the definition says, and leaves the state that it says
+pub record Follows (x : Model) (kind : RunKind) (old new : EngineView) (t : Told) : Type 0 where
+  pub told : t ≡ tells old.lines old.config x kind
+  pub stands : new.stands (turned old.lines old.config x kind)

@@ -1,0 +1,4 @@
+pub mod Engines
+pub mod Making
+pub mod Bounds
+pub mod Fronts
