@@ -12,8 +12,8 @@ count_below q strikes = count_by (λ s. nat_lt (key_of s) q) strikes
 unfoldable pub before : List Strike → ℕ → ℕ → ℕ
 before strikes core attempt = count_below (key core attempt) strikes
 
--- so many attempts of the core were begun: the cursor is at the strikes of the last one, or, before
--- the first one, at none, with all of the core to come
+-- so many attempts of the core were begun: the cursor is at the strikes of the last one, or, with
+-- none begun, at no strike, with all of the core to come
 pub record IsAt (strikes : List Strike) (core begun : ℕ) (cursor : Cursor) : Type 0 where
   pub low : cursor.low ≡ before strikes core (begun - 1)
   pub high : cursor.high ≡ before strikes core begun

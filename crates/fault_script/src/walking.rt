@@ -1,4 +1,4 @@
-// The strikes of a core's attempts, as these are begun one after another: no attempt needs a search.
+// The strikes of a core's attempts as these are begun in turn: no attempt needs a search.
 #![tactic(auto)]
 
 ghost use Rattle.std.specs.Prelude.{◌≡◌, ℕ, ◌+◌, ◌-◌, ◌≤◌, [], length, take, drop};
