@@ -5,3 +5,4 @@ pub mod Telling
 pub mod Going
 pub mod Runs
 pub mod Ends
+pub mod Fitting

@@ -17,3 +17,6 @@ pub use laws::{
 };
 pub use running::{make_run, make_runs};
 pub use turning::make_turn;
+
+#[cfg(test)]
+mod tests;
