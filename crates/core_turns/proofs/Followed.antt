@@ -24,7 +24,7 @@ use Rattle.core_states.specs.Read.{registers_read}
 use Rattle.checkpoint_laws.specs.Stored.{ClocksFit}
 use Rattle.checkpoint_laws.proofs.Begun.{fate_reads}
 use Rattle.checkpoint_laws.proofs.Exits.{fate_registers}
-use Rattle.core_turns.specs.Giving.{HasRegisters, KeepsRegisters, after_outcome}
+use Rattle.core_turns.specs.Giving.{HasRegisters, KeepsRegisters, after_outcome, KeepsCount}
 use Rattle.core_turns.specs.Held.{CorePool, HeldBy, HoldsRegisters, IsThere, RunsWith}
 use Rattle.core_turns.specs.Meeting.{event_of, met_on_chip, next_cause, why_met}
 use Rattle.core_turns.specs.Recovered.{Recovers}
@@ -213,5 +213,7 @@ followed c n cpu h z z2 bytes bytes2 seen seen2 p p2 es t x turn b =
       side = ap (λ q. side_of (run m (events_of q))) (sym row.event) ∙ gives.side;
       spares = row.spares;
       registers = λ j ne. ap (λ q. (run m (events_of q)).registers j) (sym row.event) ∙ gives.others j ne;
+      console = subst (λ q. KeepsCount m (run m (events_of q)) t.written.console.items) row.event
+          gives.console;
       leaves = leaves;
     }

@@ -1,10 +1,10 @@
 -- What each exit of a turn makes of the machine of the definitions, and what it tells.
-use Rattle.std.proofs.Common.{◌≡◌, ◌≢◌, ℕ, List, ◌++◌, Bool, true, false, Option, Some, None, length, drop, refl, sym, ap, ◌∙◌, subst}
+use Rattle.std.proofs.Common.{◌≡◌, ◌≢◌, ℕ, List, ◌++◌, Bool, true, false, Option, Some, None, length, length-append, length-drop, drop, refl, sym, ap, ◌∙◌, subst, ◌+◌, ◌≤◌, arith, []}
 use Rattle.std.proofs.Math.Seq.{drop-append_seam}
 use Rattle.esa_model.specs.declared.machine.Event.{Event}
 use Rattle.esa_model.specs.declared.machine.Event.TheVariants as event
 use Rattle.esa_model.specs.declared.machine.Registers.{Registers}
-use Rattle.esa_model.specs.Apply.{apply, carried_out, applied_storage, console_out}
+use Rattle.esa_model.specs.Apply.{apply, carried_out, applied_storage, console_in, console_out}
 use Rattle.esa_model.specs.Bus.{cpu_no}
 use Rattle.esa_model.specs.Changes.{changed_bytes}
 use Rattle.esa_model.specs.Line.{Side}
@@ -28,10 +28,22 @@ use Rattle.core_turns.specs.declared.held.Turned.{Turned}
 use Rattle.core_turns.specs.declared.outcomes.Outcome.{Outcome}
 use Rattle.core_turns.specs.declared.outcomes.Outcome.TheVariants as outcome
 use Rattle.core_turns.specs.Ends.{Quits, idle_side, stopped_side}
-use Rattle.core_turns.specs.Giving.{Gives, TurnGives, KeepsRegisters, SeenBy, after_outcome}
+use Rattle.core_turns.specs.Giving.{Gives, TurnGives, KeepsRegisters, SeenBy, after_outcome, KeepsCount}
 use Rattle.core_turns.specs.Meeting.{event_of}
 
 -- ---- no commit
+
+abbrev SameConsole : Machine → Machine → Type 0
+SameConsole m m2 = (m2.console_read ≡ m.console_read) × (m2.console ≡ m.console)
+    × (m2.console_written ≡ m.console_written)
+
+none_read : (m m2 : Machine) → SameConsole m m2 → KeepsCount m m2 []
+none_read m m2 same = record {
+  read = rw (same.0, same.1) refl;
+  more = rw same.0 (omega arith);
+  few = rw same.0 (omega arith);
+  written = rw same.2 (omega arith);
+}
 
 gives_by : (m : Machine) (i : ℕ) (h h2 : Held) (es : List Entry) (t : Turned) (came : Outcome)
     (e : Option Event) (bytes : List ℕ) (seen : Side) → Quits h2 came t → event_of i came ≡ e
@@ -39,8 +51,9 @@ gives_by : (m : Machine) (i : ℕ) (h h2 : Held) (es : List Entry) (t : Turned) 
     → tells_nothing_else es e ≡ tells_by m es e
     → KeepsRegisters h h2 (run m (events_of e)) i
     → ((j : ℕ) → j ≢ i → (run m (events_of e)).registers j ≡ m.registers j)
+    → SameConsole m (run m (events_of e))
     → Gives m i h es t bytes seen
-gives_by m i h h2 es t came e bytes seen q is storage side tells own others =
+gives_by m i h h2 es t came e bytes seen q is storage side tells own others same =
     let event_is : event_of i t.outcome ≡ e = ap (event_of i) q.outcome ∙ is in
     record {
       storage = ap (λ (x : Option Event). (run m (events_of x)).storage) event_is ∙ storage;
@@ -52,6 +65,10 @@ gives_by m i h h2 es t came e bytes seen q is storage side tells own others =
           (sym event_is) own);
       others = λ j ne. ap (λ (x : Option Event). (run m (events_of x)).registers j) event_is
           ∙ others j ne;
+      console = subst (λ (x : Option Event). KeepsCount m (run m (events_of x)) t.written.console.items)
+          (sym event_is)
+          (subst (λ (out : List ℕ). KeepsCount m (run m (events_of e)) out) (sym q.console)
+          (none_read m (run m (events_of e)) same));
     }
 
 pub gives_idle : (i : ℕ) (k : RunningCore) (es : List Entry) (t : Turned) (bytes : List ℕ)
@@ -59,14 +76,14 @@ pub gives_idle : (i : ℕ) (k : RunningCore) (es : List Entry) (t : Turned) (byt
     → TurnGives i (Running k) bytes seen es t bytes seen2
 gives_idle i k es t bytes seen seen2 q is m has sees =
     gives_by m i (Running k) (Running k) es t outcome.Idle (Some (event.Idle (cpu_no i))) bytes
-    seen2 q refl sees.storage (ap idle_side sees.side ∙ sym is) refl has (λ j ne. refl)
+    seen2 q refl sees.storage (ap idle_side sees.side ∙ sym is) refl has (λ j ne. refl) (refl, refl, refl)
 
 pub gives_gone : (i : ℕ) (c : CoreNo) (r : ℕ) (es : List Entry) (t : Turned) (bytes : List ℕ)
     (seen seen2 : Side) → Quits (Lost c r) outcome.Idle t → seen2 ≡ idle_side seen
     → TurnGives i (Lost c r) bytes seen es t bytes seen2
 gives_gone i c r es t bytes seen seen2 q is m has sees =
     gives_by m i (Lost c r) (Lost c r) es t outcome.Idle (Some (event.Idle (cpu_no i))) bytes
-    seen2 q refl sees.storage (ap idle_side sees.side ∙ sym is) refl tt (λ j ne. refl)
+    seen2 q refl sees.storage (ap idle_side sees.side ∙ sym is) refl tt (λ j ne. refl) (refl, refl, refl)
 
 -- a running core is never left recovering with registers
 pub gives_failed : (i : ℕ) (k : RunningCore) (k2 : RecoveringCore) (why : Cause) (es : List Entry)
@@ -75,7 +92,7 @@ pub gives_failed : (i : ℕ) (k : RunningCore) (k2 : RecoveringCore) (why : Caus
     → TurnGives i (Running k) bytes seen es t bytes2 seen
 gives_failed i k k2 why es t bytes bytes2 seen q same m has sees =
     gives_by m i (Running k) (Recovering k2) es t (outcome.Failed why) None bytes2 seen q refl
-    (sees.storage ∙ sym same) sees.side refl tt (λ j ne. refl)
+    (sees.storage ∙ sym same) sees.side refl tt (λ j ne. refl) (refl, refl, refl)
 
 pub gives_lost : (i : ℕ) (k : RunningCore) (c : CoreNo) (r : ℕ) (es : List Entry) (t : Turned)
     (bytes bytes2 : List ℕ) (seen seen2 : Side) → Quits (Lost c r) outcome.Stopped t
@@ -84,7 +101,7 @@ pub gives_lost : (i : ℕ) (k : RunningCore) (c : CoreNo) (r : ℕ) (es : List E
 gives_lost i k c r es t bytes bytes2 seen seen2 q same is m has sees =
     gives_by m i (Running k) (Lost c r) es t outcome.Stopped (Some (event.Stop (cpu_no i))) bytes2
     seen2 q refl (sees.storage ∙ sym same) (ap (stopped_side i) sees.side ∙ sym is) refl tt
-    (λ j ne. refl)
+    (λ j ne. refl) (refl, refl, refl)
 
 pub gives_stopped : (i : ℕ) (k : RecoveringCore) (c : CoreNo) (r : ℕ) (es : List Entry)
     (t : Turned) (bytes : List ℕ) (seen seen2 : Side) → Quits (Lost c r) outcome.Stopped t
@@ -92,14 +109,14 @@ pub gives_stopped : (i : ℕ) (k : RecoveringCore) (c : CoreNo) (r : ℕ) (es : 
 gives_stopped i k c r es t bytes seen seen2 q is m has sees =
     gives_by m i (Recovering k) (Lost c r) es t outcome.Stopped (Some (event.Stop (cpu_no i)))
     bytes seen2 q refl sees.storage (ap (stopped_side i) sees.side ∙ sym is) refl tt
-    (λ j ne. refl)
+    (λ j ne. refl) (refl, refl, refl)
 
 pub gives_again : (i : ℕ) (k : RecoveringCore) (k2 : RunningCore) (came : Outcome)
     (es : List Entry) (t : Turned) (bytes : List ℕ) (seen : Side) → Quits (Running k2) came t
     → event_of i came ≡ None → TurnGives i (Recovering k) bytes seen es t bytes seen
 gives_again i k k2 came es t bytes seen q none m has sees =
     gives_by m i (Recovering k) (Running k2) es t came None bytes seen q none sees.storage
-    sees.side refl tt (λ j ne. refl)
+    sees.side refl tt (λ j ne. refl) (refl, refl, refl)
 
 -- ---- the law of a packet that was not struck
 
@@ -137,6 +154,23 @@ record Becomes (m x : Machine) (i : ℕ) (f : Fields) (bytes2 : List ℕ) (seen2
   registers : x.registers i ≡ f.registers
   others : (j : ℕ) → j ≢ i → x.registers j ≡ m.registers j
   console : x.console_written ≡ m.console_written ++ console_out f
+  left : x.console_read + length x.console ≡ m.console_read + length m.console
+  more : m.console_read ≤ x.console_read
+  few : x.console_read ≤ m.console_read + 256
+
+read_most : (f : Fields) (left : ℕ) → console_in f left ≤ left
+read_most f left = grind arith
+
+read_few : (f : Fields) (left : ℕ) → console_in f left ≤ 256
+read_few f left = grind arith
+
+left_over : (f : Fields) (console : List ℕ) (before : ℕ)
+    → before + console_in f (length console)
+    + length (drop (console_in f (length console)) console) ≡ before + length console
+left_over f console before =
+    let most = read_most f (length console) in
+    let rest = length-drop (console_in f (length console)) console in
+    omega (arith, most, rest)
 
 carried_becomes : (m : Machine) (i : ℕ) (r : Registers) (p : List ℕ) (bytes bytes2 : List ℕ)
     (seen seen2 : Side) → m.registers i ≡ r → SeenBy m i bytes seen
@@ -164,6 +198,9 @@ carried_becomes m i r p bytes bytes2 seen seen2 own sees by =
       registers = at_same m.registers i (read p).registers;
       others = λ j ne. at_other m.registers i (read p).registers j ne;
       console = refl;
+      left = left_over (read p) m.console m.console_read;
+      more = omega arith;
+      few = let n = read_few (read p) (length m.console) in omega (arith, n);
     }
 
 pub record Commits (k2 : RunningCore) (t : Turned) (p : List ℕ) (bytes bytes2 : List ℕ) : Type 0 where
@@ -216,6 +253,13 @@ gives_committed i k k2 es t p bytes bytes2 seen seen1 seen2 busy law by later c 
           ∙ b.registers ∙ sym c.registers);
       others = λ j ne. ap (λ (x : Option Event). (run m (events_of x)).registers j) event_is
           ∙ b.others j ne;
+      console =
+          let out : length (next m i).console_written
+          ≡ length m.console_written + length t.written.console.items =
+          ap length b.console ∙ length-append m.console_written (console_out (read p))
+          ∙ ap (λ (xs : List ℕ). length m.console_written + length xs) (sym c.console) in
+          subst (λ (x : Option Event). KeepsCount m (run m (events_of x)) t.written.console.items)
+          (sym event_is) (record { read = b.left; more = b.more; few = b.few; written = out });
     }
 
 -- the same of equal registers and bytes

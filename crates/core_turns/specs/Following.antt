@@ -15,7 +15,7 @@ use Rattle.run_model.specs.Runs.{Model, events_of, tells, turned}
 use Rattle.run_model.specs.Script.{InForm}
 use Rattle.silicon.specs.Chip.{Chip}
 use Rattle.checkpoint_laws.specs.Stored.{FewWrong, StoredAs}
-use Rattle.core_turns.specs.Giving.{SeenBy, told_of}
+use Rattle.core_turns.specs.Giving.{KeepsCount, SeenBy, told_of}
 use Rattle.core_turns.specs.Held.{CorePool, IsThere, SparesAre}
 use Rattle.core_turns.specs.Standing.{StandsAt}
 use Rattle.core_turns.specs.declared.held.Held.{Held}
@@ -67,5 +67,6 @@ pub record Followed (c : Config) (cpu : CpuNo) (z z2 : Chip) (bytes2 : List ℕ)
   pub side : side_of y.machine ≡ seen2
   pub spares : SparesAre p2 y.fate.cores.spare
   pub registers : (j : ℕ) → j ≢ cpu.0 → y.machine.registers j ≡ x.machine.registers j
+  pub console : KeepsCount x.machine y.machine t.written.console.items
   pub leaves : Leaves z z2 x.fate (bits_then z c x cpu.0) (did z c x cpu.0) cpu.0
       (y.machine.registers cpu.0)

@@ -1,6 +1,6 @@
 -- What a turn of a CPU makes of the machine of the definitions, and what it tells.
 -- Source: choice of this project; what a commit does is the step of the Principles of Operation.
-use Rattle.std.specs.Prelude.{⊤, ◌≡◌, ◌≢◌, ℕ, ◌<◌, Bool, IsTrue, List, length}
+use Rattle.std.specs.Prelude.{⊤, ◌≡◌, ◌≢◌, ℕ, ◌+◌, ◌<◌, ◌≤◌, Bool, IsTrue, List, length}
 use Rattle.esa_model.specs.Line.{Side}
 use Rattle.esa_model.specs.Machine.{Machine, side_of}
 use Rattle.esa_model.specs.Run.{run}
@@ -49,6 +49,14 @@ KeepsRegisters (Recovering k) h2 m i = ⊤
 KeepsRegisters (Lost c retries) h2 m i = ⊤
 KeepsRegisters Taken h2 m i = ⊤
 
+-- of the console, at most 256 bytes more were read, and what was read and what is left are together
+-- what they were; and so many bytes more were written
+pub record KeepsCount (m m2 : Machine) (out : List ℕ) : Type 0 where
+  pub read : m2.console_read + length m2.console ≡ m.console_read + length m.console
+  pub more : m.console_read ≤ m2.console_read
+  pub few : m2.console_read ≤ m.console_read + 256
+  pub written : length m2.console_written ≡ length m.console_written + length out
+
 -- storage and side after the turn are those of that machine, what it tells is what is told of it,
 -- and so are the registers; those of other CPUs stay
 pub record Gives (m : Machine) (i : ℕ) (h : Held) (es : List Entry) (t : Turned)
@@ -58,6 +66,7 @@ pub record Gives (m : Machine) (i : ℕ) (h : Held) (es : List Entry) (t : Turne
   pub told : told_of i es t ≡ tells_by m es (event_of i t.outcome)
   pub registers : KeepsRegisters h t.held (after_outcome m i t.outcome) i
   pub others : (j : ℕ) → j ≢ i → (after_outcome m i t.outcome).registers j ≡ m.registers j
+  pub console : KeepsCount m (after_outcome m i t.outcome) t.written.console.items
 
 -- a commit is one of exact units, and the silicon was within the premise at the attempt; of any other
 -- turn nothing is asked

@@ -22,3 +22,6 @@ pub use memory::Memory;
 pub use outcomes::Outcome;
 pub use registers::are_registers;
 pub use turning::turn_held;
+
+#[cfg(test)]
+mod tests;
