@@ -1,0 +1,5 @@
+pub mod Returned
+pub mod Bringing
+pub mod Keying
+pub mod After
+pub mod Obeying

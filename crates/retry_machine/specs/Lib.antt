@@ -1,0 +1,4 @@
+pub mod Counts
+pub mod Fits
+pub mod Standing
+pub mod Turning

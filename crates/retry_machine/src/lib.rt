@@ -1,0 +1,14 @@
+//! The machine that runs on through faults of its cores: its start and its turns.
+#![tactic(auto)]
+
+mod counts;
+mod keys;
+mod machine;
+mod returning;
+mod state;
+mod turning;
+mod turns;
+
+pub use core_turns::Outcome;
+pub use machine::Machine;
+pub use turns::Turn;

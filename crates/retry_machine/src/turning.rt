@@ -1,0 +1,91 @@
+// A turn of a CPU.
+ghost use Rattle.std.specs.Prelude.{◌≡◌, ◌≤◌, ◌<◌, ◌+◌, ◌-◌, ◌^◌, IsTrue, length};
+ghost use Rattle.esa_model.specs.Changes.{stretches};
+ghost use Rattle.run_model.specs.Cores.{Cores};
+ghost use Rattle.run_model.specs.declared.schedules.RunKind.TheVariants as kinds;
+ghost use Rattle.core_turns.specs.ChipAfter.{Rises};
+ghost use Rattle.core_turns.specs.Held.{core_of};
+ghost use Rattle.retry_machine.specs.Standing.{StandsByMode};
+ghost use Rattle.retry_machine.specs.Turning.{FollowsAll, Obeys, core_at, told_by};
+
+use crate::machine::Machine;
+use crate::turns::Turn;
+use core_turns::{Held, Journal, turn_held};
+use esa_model::machine::CpuNo;
+use result_packet::Side;
+use run_model::faults::CoreNo;
+use silicon::Silicon;
+use std::mem;
+use twin_units::ResultUnit;
+
+/// How many bytes of the console input are left.
+fn console_left(side: &Side) -> u32
+    ensures { result ≡ length side.now.console }
+{
+    side.console.left()
+}
+
+/// The core that is held for a CPU; one that was lost keeps its number.
+pub(crate) fn core_held(held: &Held) -> CoreNo
+    ensures { result.0 ≡ core_of held.now }
+{
+    match held {
+        Held::Running(k) => k.core(),
+        Held::Recovering(k) => k.core(),
+        Held::Lost(core, _) => *core,
+        Held::Taken => CoreNo(0),
+    }
+}
+
+impl Machine {
+    /// One turn of a CPU: the event that is due there is tried on its core, or the core is
+    /// recovered. It takes no memory.
+    pub fn turn<Z: Silicon, P: ResultUnit, Q: ResultUnit>(
+        &mut self,
+        cpu: CpuNo,
+        z: &mut Z,
+        a: &mut P,
+        b: &mut Q,
+    ) -> Turn
+        requires known { cpu.0 < self.old.config.cpus }
+        requires room { self.old.counts.turns < 2 ^ 48 }
+        requires begun { (Z.seen z.old).begun (core_at self.old.cpus.items cpu.0) < 2 ^ 64 - 1 }
+        requires calls_a { (P.seen a.old).calls < 2 ^ 64 - 1 }
+        requires calls_b { (Q.seen b.old).calls < 2 ^ 64 - 1 }
+        ensures follows { IsTrue (P.seen a.old).exact → IsTrue (Q.seen b.old).exact
+            → FollowsAll (Z.seen z.old).lines self.old.config self.old (Z.seen z.old)
+            (kinds.Turns cpu) (told_by cpu.0 result) self.new (Z.seen z.new) }
+        ensures obeys { (s : Cores) → StandsByMode self.old s
+            → Obeys self.old.config s (kinds.Turns cpu) (told_by cpu.0 result) self.new }
+        ensures config { self.new.config ≡ self.old.config }
+        ensures rises { Rises (Z.seen z.old) (Z.seen z.new) }
+        ensures turns { self.new.counts.turns ≡ self.old.counts.turns + 1 }
+        ensures stretches { length (stretches result.written.changed.items) ≤ 135 }
+    {
+        let held = mem::replace(&mut self.cpus[cpu.0 as usize], Held::Taken);
+        let mut journal = Journal::new(self.counts.turns() + 1, cpu, core_held(&held));
+        let left = console_left(&self.side);
+        let turned = turn_held(
+            held,
+            cpu,
+            self.config.threshold,
+            &mut self.memory,
+            &mut self.side,
+            &mut self.pool,
+            z,
+            a,
+            b,
+            &mut journal,
+        );
+        self.cpus[cpu.0 as usize] = turned.held;
+        let read = left.saturating_sub(console_left(&self.side)).min(256);
+        self.counts
+            .count(turned.outcome, read, turned.written.console.len());
+        Turn {
+            outcome: turned.outcome,
+            entries: journal.entries,
+            psw: turned.psw,
+            written: turned.written,
+        }
+    }
+}
