@@ -1,4 +1,5 @@
 pub mod Cuts
+pub mod EndsRead
 pub mod Feeds
 pub mod Plain
 pub mod Taken

@@ -14,7 +14,7 @@ use Rattle.run_model.specs.LogReading.{long_in, byte_in, cause_in, one_field, tw
 use Rattle.service_log.proofs.Cuts.{cases_bool}
 use Rattle.service_log.proofs.Plain.{is_plain, first_field, only_field, decimal_plain, blank, four_parts, content_fed}
 
-long_read : (n : ℕ) → n < 2 ^ 64 → long_in (decimal n) ≡ Some n
+pub long_read : (n : ℕ) → n < 2 ^ 64 → long_in (decimal n) ≡ Some n
 unfolding long_in
 long_read n h = of_text (2 ^ 64 - 1) n (omega arith) (omega arith)
 

@@ -10,7 +10,8 @@ mod reading;
 mod tests;
 mod writing;
 
-pub use laws::{read_is_written, written_is_read};
+pub use ends::{Ending, Heading, read_head, read_tail};
+pub use laws::{ends_are_read, read_is_written, written_is_read};
 pub use migrating::migrate;
 pub use reading::read;
 pub use run_model::logs::{Config, Entry, LogRefusal, MigrateRefusal, What};

@@ -150,9 +150,9 @@ pub fn entry_of(text: &[u8]) -> Option<Entry>
     entry_of_fields(text)
 }
 
-// A line without the line feed that ends it.
+/// A line without the line feed that ends it.
 #[tactic(auto, unfolding(run_model::specs::LogReading::content))]
-fn content(line: &[u8]) -> Option<&[u8]>
+pub fn content(line: &[u8]) -> Option<&[u8]>
     ensures { content_of result ≡ content_text line.now }
 {
     let end = line.len().checked_sub(1)?;

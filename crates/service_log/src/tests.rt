@@ -1,6 +1,9 @@
 ghost use Rattle.std.specs.Prelude.{◌<◌, ◌^◌, length};
 
-use crate::{Config, Entry, LogRefusal, MigrateRefusal, What, head, migrate, read, tail, write};
+use crate::{
+    Config, Ending, Entry, Heading, LogRefusal, MigrateRefusal, What, head, migrate, read,
+    read_head, read_tail, tail, write,
+};
 use esa_model::machine::CpuNo;
 use run_model::faults::{Cause, CoreNo};
 use std::alloc::Global;
@@ -109,6 +112,66 @@ fn ends_of_a_log(rt: HostRuntime) {
     let wanted = b"G5LOG 2 CPUS 8 SPARES 0 THRESHOLD 15\n".as_slice();
     assert_eq!(rt; head(&c).as_slice(), wanted);
     assert_eq!(rt; tail(19, 1).as_slice(), b"END 19 RETURNED 1\n".as_slice());
+}
+
+fn heading(cpus: u8, spares: u8, threshold: u8) -> Option<Heading> {
+    Some(Heading {
+        cpus,
+        spares,
+        threshold,
+    })
+}
+
+// A head has its version and its line feed, and numbers that a machine may have.
+#[test]
+fn heads_read(rt: HostRuntime) {
+    let rows: [(&[u8], Option<Heading>); 14] = [
+        (b"G5LOG 2 CPUS 1 SPARES 0 THRESHOLD 3\n", heading(1, 0, 3)),
+        (b"G5LOG 2 CPUS 1 SPARES 0 THRESHOLD 0\n", heading(1, 0, 0)),
+        (b"G5LOG 2 CPUS 8 SPARES 8 THRESHOLD 15\n", heading(8, 8, 15)),
+        (b"G5LOG 1 CPUS 1 SPARES 0 THRESHOLD 3\n", None),
+        (b"G5LOG 2 CPUS 0 SPARES 0 THRESHOLD 3\n", None),
+        (b"G5LOG 2 CPUS 9 SPARES 0 THRESHOLD 3\n", None),
+        (b"G5LOG 2 CPUS 1 SPARES 9 THRESHOLD 3\n", None),
+        (b"G5LOG 2 CPUS 1 SPARES 0 THRESHOLD 16\n", None),
+        (b"G5LOG 2 CPUS 1 SPARES 0 THRESHOLD 3", None),
+        (b"G5LOG 2 CPUS 1 SPARES 0 THRESHOLD 3 \n", None),
+        (b"G5LOG 2 CPUS 1 SPARES 0 THRESHOLD 3\n\n", None),
+        (b"G5LOG 2 SPARES 0 CPUS 1 THRESHOLD 3\n", None),
+        (b"END 10 RETURNED 0\n", None),
+        (b"", None),
+    ];
+    for (line, wanted) in rows {
+        assert_eq!(rt; read_head(line), wanted);
+    }
+}
+
+fn ending(turns: u64, returned: u64) -> Option<Ending> {
+    Some(Ending { turns, returned })
+}
+
+// A tail has both its numbers and its line feed.
+#[test]
+fn tails_read(rt: HostRuntime) {
+    let rows: [(&[u8], Option<Ending>); 11] = [
+        (b"END 19 RETURNED 1\n", ending(19, 1)),
+        (b"END 0 RETURNED 0\n", ending(0, 0)),
+        (
+            b"END 18446744073709551615 RETURNED 0\n",
+            ending(u64::MAX, 0),
+        ),
+        (b"END 18446744073709551616 RETURNED 0\n", None),
+        (b"END 10 RETURNED 00\n", None),
+        (b"END 10 RETURNED\n", None),
+        (b"END 10\n", None),
+        (b"END 10 RETURNED 0", None),
+        (b"END 10 RETURNED 0 \n", None),
+        (b"10 0 0 STOP\n", None),
+        (b"\n", None),
+    ];
+    for (line, wanted) in rows {
+        assert_eq!(rt; read_tail(line), wanted);
+    }
 }
 
 #[test]
