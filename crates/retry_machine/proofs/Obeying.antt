@@ -24,7 +24,7 @@ use Rattle.silicon.specs.Chip.{Chip}
 use Rattle.checkpoint_laws.proofs.Few.{few_bounded}
 use Rattle.core_turns.specs.Following.{Followed, IsBefore}
 use Rattle.core_turns.specs.Giving.{told_of}
-use Rattle.core_turns.specs.Held.{HeldBy, IsThere, core_of}
+use Rattle.core_turns.specs.Held.{CorePool, HeldBy, IsThere, core_of}
 use Rattle.core_turns.specs.Meeting.{IsRow, TurnGoes, WaitsAs, event_of, met_on_chip, why_met}
 use Rattle.core_turns.specs.Places.{EachInOnePlace}
 use Rattle.core_turns.specs.declared.held.Held.{Held}
@@ -236,3 +236,24 @@ follows_of m m2 cpu z z2 es t turn x h st bounded known got placed put counts to
       (counts_after m m2 cpu z z2 es t x st counts f) f;
   bounded = bounds_then z.lines m.config x cpu known bounded;
 }
+
+-- ---- what the turn does to what is held
+
+some_is : (g h : Held) → ◌≡◌ {A = Option Held} (Some g) (Some h) → g ≡ h
+some_is g h e = cc e
+
+pub goes_of : (m : Machine) (items : List Held) (cpu : CpuNo) (z : Chip) (es : List Entry)
+    (o : Outcome) (n : ℕ) (was t h after : Held) (pool : CorePool)
+    → slice_get m.cpus.items cpu.0 ≡ Some was → n ≡ m.counts.turns + 1
+    → items ≡ slice_set m.cpus.items cpu.0 t
+    → TurnGoes m.config.threshold n cpu.0 was m.side m.pool z es o t pool
+    → slice_get m.cpus.items cpu.0 ≡ Some h → slice_get items cpu.0 ≡ Some after
+    → TurnGoes m.config.threshold (m.counts.turns + 1) cpu.0 h m.side m.pool z es o after pool
+goes_of m items cpu z es o n was t h after pool got number put goes there now =
+    let same : was ≡ h = some_is was h (sym got ∙ there) in
+    let left : after ≡ t = get_same m.cpus.items cpu.0 after t
+    (subst (λ q. slice_get q cpu.0 ≡ Some after) put now) in
+    subst (λ q. TurnGoes m.config.threshold (m.counts.turns + 1) cpu.0 h m.side m.pool z es o q pool)
+    (sym left)
+    (subst (λ q. TurnGoes m.config.threshold (m.counts.turns + 1) cpu.0 q m.side m.pool z es o t pool)
+    same (subst (λ q. TurnGoes m.config.threshold q cpu.0 was m.side m.pool z es o t pool) number goes))

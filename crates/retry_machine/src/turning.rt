@@ -1,10 +1,13 @@
 // A turn of a CPU.
-ghost use Rattle.std.specs.Prelude.{◌≡◌, ◌≤◌, ◌<◌, ◌+◌, ◌-◌, ◌^◌, IsTrue, length};
+ghost use Rattle.std.specs.Prelude.{◌≡◌, ◌≤◌, ◌<◌, ◌+◌, ◌-◌, ◌^◌, IsTrue, Some, length, slice_get};
 ghost use Rattle.esa_model.specs.Changes.{stretches};
 ghost use Rattle.run_model.specs.Cores.{Cores};
 ghost use Rattle.run_model.specs.declared.schedules.RunKind.TheVariants as kinds;
 ghost use Rattle.core_turns.specs.ChipAfter.{Rises};
+ghost use Rattle.core_turns.specs.Giving.{StaysUnlessCommitted};
+ghost use Rattle.core_turns.specs.Handing.{calls_of};
 ghost use Rattle.core_turns.specs.Held.{core_of};
+ghost use Rattle.core_turns.specs.Meeting.{TurnGoes};
 ghost use Rattle.retry_machine.specs.Standing.{StandsByMode};
 ghost use Rattle.retry_machine.specs.Turning.{FollowsAll, Obeys, core_at, told_by};
 
@@ -57,6 +60,17 @@ impl Machine {
             (kinds.Turns cpu) (told_by cpu.0 result) self.new (Z.seen z.new) }
         ensures obeys { (s : Cores) → StandsByMode self.old s
             → Obeys self.old.config s (kinds.Turns cpu) (told_by cpu.0 result) self.new }
+        ensures goes { (h after : Held) → slice_get self.old.cpus.items cpu.0 ≡ Some h
+            → slice_get self.new.cpus.items cpu.0 ≡ Some after
+            → TurnGoes self.old.config.threshold (self.old.counts.turns + 1) cpu.0 h
+            self.old.side self.old.pool (Z.seen z.old) result.entries.items result.outcome after
+            self.new.pool }
+        ensures quiet { StaysUnlessCommitted result.outcome self.old.memory.bytes
+            self.new.memory.bytes }
+        ensures calls_a { (P.seen a.new).calls ≡ (P.seen a.old).calls + calls_of result.outcome }
+        ensures calls_b { (Q.seen b.new).calls ≡ (Q.seen b.old).calls + calls_of result.outcome }
+        ensures kind_a { (P.seen a.new).exact ≡ (P.seen a.old).exact }
+        ensures kind_b { (Q.seen b.new).exact ≡ (Q.seen b.old).exact }
         ensures config { self.new.config ≡ self.old.config }
         ensures rises { Rises (Z.seen z.old) (Z.seen z.new) }
         ensures turns { self.new.counts.turns ≡ self.old.counts.turns + 1 }

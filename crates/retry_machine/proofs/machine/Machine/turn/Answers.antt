@@ -22,7 +22,7 @@ use Rattle.core_turns.specs.Places.{EachInOnePlace}
 use Rattle.core_turns.specs.declared.held.Held.{Held}
 use Rattle.core_turns.proofs.Sums.{once, set_twice, still_placed}
 use Rattle.retry_machine.specs.Fits.{IsFitting, all_there}
-use Rattle.retry_machine.proofs.Obeying.{before_turn, follows_of, obeys_of, there_at, there_set}
+use Rattle.retry_machine.proofs.Obeying.{before_turn, follows_of, goes_of, obeys_of, there_at, there_set}
 use Rattle.retry_machine.proofs.machine.Machine.turn.Goals as goal
 
 pub turn_held-turned-requires-clause-once : goal.turn_held-turned-requires-clause-once
@@ -97,3 +97,19 @@ returns-clause-obeys g c = λ s st.
     obeys_of m _ c.args.cpu (g.Z.Silicon.seen c.args.z.now) _ t _ h _ c.min-read.result
     c.len.result s st got number (set_twice cpus i c.replace-held.new.dest t.held)
     c.count.ensures.counts refl c.turn_held-turned.ensures.goes
+
+pub returns-clause-goes : goal.returns-clause-goes
+returns-clause-goes g c = λ h after there now.
+    let m = c.args.self.now in
+    let cpus = m.cpus.items in
+    let i = c.args.cpu.0 in
+    let was = c.replace-held.result in
+    let t = c.turn_held-turned.result in
+    let inside : i < length cpus = subst (λ (n : ℕ). i < n) m.fits.cpus c.requires.known in
+    let got : slice_get cpus i ≡ Some was =
+    slice_get_read cpus _ i c.index_mut.result.now refl inside c.index_mut.ensures.value
+    ∙ ap (λ (q : Held). Some q) (sym c.replace-held.ensures.value) in
+    let number : c.new-journal.result.turn ≡ m.counts.turns + 1 =
+    c.new-journal.ensures.turn ∙ ap (λ n. n + 1) c.turns.ensures.turns in
+    goes_of m _ c.args.cpu (g.Z.Silicon.seen c.args.z.now) _ _ _ was t.held h after _ got number
+    (set_twice cpus i c.replace-held.new.dest t.held) c.turn_held-turned.ensures.goes there now
