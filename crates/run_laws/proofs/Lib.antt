@@ -25,3 +25,5 @@ pub mod Modes
 pub mod Summing
 pub mod Tellings
 pub mod Premised
+pub mod Events
+pub mod Ruling

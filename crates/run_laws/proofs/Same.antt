@@ -33,14 +33,14 @@ text_append p (x ∷ xs) ys =
     ∙ sym (append_assoc (if same_place p x.place then x.bytes else []) (text p xs)
     (text p ys))
 
-entries_none : (p : Place) (es : List Entry) → same_place p Log ≡ false
+pub entries_none : (p : Place) (es : List Entry) → same_place p Log ≡ false
     → text p (entry_pieces es) ≡ []
 entries_none p [] h = refl
 entries_none p (e ∷ es) h =
     ap (λ b. (if b then entry_line e else []) ++ text p (entry_pieces es)) h ∙ entries_none p es h
 
 -- what one turn writes besides its entries
-turn_text : (p : Place) (n : ℕ) (t : Told) (rest : List Piece) → same_place p Log ≡ false
+pub turn_text : (p : Place) (n : ℕ) (t : Told) (rest : List Piece) → same_place p Log ≡ false
     → text p (turn_pieces n t ++ rest) ≡ text p (commit_pieces n t t.event) ++ text p rest
 unfolding turn_pieces
 turn_text p n t rest h =
@@ -49,19 +49,19 @@ turn_text p n t rest h =
     (text_append p (entry_pieces t.entries) (commit_pieces n t t.event)
     ∙ ap (λ z. z ++ text p (commit_pieces n t t.event)) (entries_none p t.entries h))
 
-told_event : (m : Machine) (es : List Entry) (e : Option Event) → (tells_by m es e).event ≡ e
+pub told_event : (m : Machine) (es : List Entry) (e : Option Event) → (tells_by m es e).event ≡ e
 told_event m es None = refl
 told_event m es (Some (event.Commit i)) = refl
 told_event m es (Some _) = refl
 
-told_pieces : (n : ℕ) (m : Machine) (es fs : List Entry) (e : Option Event)
+pub told_pieces : (n : ℕ) (m : Machine) (es fs : List Entry) (e : Option Event)
     → commit_pieces n (tells_by m es e) (tells_by m es e).event
     ≡ commit_pieces n (tells_by m fs e) (tells_by m fs e).event
 told_pieces n m es fs None = refl
 told_pieces n m es fs (Some (event.Commit i)) = refl
 told_pieces n m es fs (Some _) = refl
 
-none_pieces : (n : ℕ) (m : Machine) (es : List Entry) (e : Option Event) → e ≡ None
+pub none_pieces : (n : ℕ) (m : Machine) (es : List Entry) (e : Option Event) → e ≡ None
     → commit_pieces n (tells_by m es e) (tells_by m es e).event ≡ []
 none_pieces n m es None h = refl
 none_pieces n m es (Some v) h = absurd (cc h)
@@ -91,12 +91,12 @@ any_append (x ∷ xs) ys =
     any_append_by true b c d e = refl
     any_append_by false b c d e = e
 
-turned_machine : (ls : List Strike) (c : Config) (x : Model) (k : RunKind)
+pub turned_machine : (ls : List Strike) (c : Config) (x : Model) (k : RunKind)
     → (turned ls c x k).machine ≡ run x.machine (events_of (fate_at ls c x k).outline.event)
 unfolding turned
 turned_machine ls c x k = refl
 
-told_is : (ls : List Strike) (c : Config) (x : Model) (k : RunKind)
+pub told_is : (ls : List Strike) (c : Config) (x : Model) (k : RunKind)
     → tells ls c x k
     ≡ tells_by x.machine (fate_at ls c x k).outline.entries (fate_at ls c x k).outline.event
 unfolding tells

@@ -12,6 +12,7 @@ ghost use Rattle.run_model.specs.Runs.{Told, entries, outline_of};
 ghost use Rattle.run_model.specs.Since.{pushed, since};
 ghost use Rattle.run_model.specs.Sorts.{is_fail, is_no_spare, is_retry, of_core, of_cpu};
 ghost use Rattle.run_laws.specs.Counted.{Counted};
+ghost use Rattle.run_laws.specs.Rules.{ByTable, KeepsRules};
 ghost use Rattle.run_laws.specs.Runs.{Tells, ValidKinds, ValidTurns, told_of_run};
 
 /// Whatever turns meet: since its last commit or transfer a CPU has at most as many retries as the
@@ -54,4 +55,10 @@ pub fn taken_as_often_as_on_hand()
 #[tactic(auto, using(crate::proofs::Summing::counted))]
 pub fn counts_count()
     ensures { (ts : List Told) → Counted ts (counts ts) }
+{}
+
+/// Turns of the table keep the rules, whatever they meet.
+pub fn rules_of_every_run()
+    ensures { (c : Config) (kinds : List RunKind) (told : List Told) → c.cpus ≤ 8
+        → ByTable c kinds told → KeepsRules c told }
 {}

@@ -4,13 +4,14 @@ ghost use Rattle.esa_model.specs.Machine.{Machine};
 ghost use Rattle.esa_model.specs.Run.{run};
 ghost use Rattle.run_model.specs.declared.faults.Strike.{Strike};
 ghost use Rattle.run_model.specs.declared.logs.Config.{Config};
-ghost use Rattle.run_model.specs.declared.outputs.Place.TheVariants.{Trace, Out};
+ghost use Rattle.run_model.specs.declared.outputs.Place.{Place};
+ghost use Rattle.run_model.specs.declared.outputs.Place.TheVariants.{Log, Trace, Out};
 ghost use Rattle.run_model.specs.declared.schedules.RunKind.{RunKind};
 ghost use Rattle.run_model.specs.Checkpoint.{width};
 ghost use Rattle.run_model.specs.Code.{ones};
 ghost use Rattle.run_model.specs.Cores.{Choice, Cores, Met, does};
 ghost use Rattle.run_model.specs.Fate.{Fate, Sight, Sound, fate, first_fate};
-ghost use Rattle.run_model.specs.Pieces.{text};
+ghost use Rattle.run_model.specs.Pieces.{same_place, text};
 ghost use Rattle.run_model.specs.Places.{Apart};
 ghost use Rattle.run_model.specs.Premise.{Within};
 ghost use Rattle.run_model.specs.Reading.{BoundAt};
@@ -18,6 +19,7 @@ ghost use Rattle.run_model.specs.Runs.{Model, entries, order, run_after, run_tel
 ghost use Rattle.run_model.specs.Sorts.{is_stop_entry};
 ghost use Rattle.run_model.specs.Texts.{turns_pieces};
 ghost use Rattle.run_laws.specs.Bounds.{BoundedCpus, Others};
+ghost use Rattle.run_laws.specs.EventRuns.{events_tell};
 ghost use Rattle.run_laws.specs.Runs.{Tells, ValidKind, ValidKinds, cores_of_run, fate_of_run, met_of_run, told_of_run, told_without};
 ghost use Rattle.run_laws.specs.TurnModes.{TurnModes};
 
@@ -97,4 +99,14 @@ pub fn same_without_recovery()
         → list_any is_stop_entry (entries (told_of_run ls c m ks)) ≡ false
         → text Out (turns_pieces 0 (told_of_run ls c m ks))
         ≡ text Out (turns_pieces 0 (told_without ls c m ks)) }
+{}
+
+/// What a run writes besides its log is what the machine without faults writes over the run's events, in
+/// their order.
+#[tactic(auto, using(crate::proofs::Events::writes_alike))]
+pub fn texts_of_the_machine_without_faults()
+    ensures { (p : Place) (ls : List Strike) (c : Config) (n : ℕ) (x : Model) (ks : List RunKind)
+        → same_place p Log ≡ false
+        → text p (turns_pieces n (run_tells ls c x ks))
+        ≡ text p (turns_pieces n (events_tell x.machine (order (run_tells ls c x ks)))) }
 {}
