@@ -5,7 +5,7 @@ use Rattle.run_model.specs.declared.faults.Strike.{Strike}
 use Rattle.run_model.specs.Script.{InRange, AllInRange}
 use Rattle.fault_script.specs.Index.{is_brief, if_lasting}
 
-ranges_all : (ls : List Strike) → AllInRange ls → All InRange ls
+pub ranges_all : (ls : List Strike) → AllInRange ls → All InRange ls
 ranges_all [] f k d h = absurd (omega arith)
 ranges_all (s ∷ ss) f zero d h = f.0
 ranges_all (s ∷ ss) f (suc k) d h = ranges_all ss f.1 k d (omega arith)

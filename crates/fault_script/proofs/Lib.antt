@@ -3,6 +3,7 @@ pub mod Counted
 pub mod Cuts
 pub mod Forms
 pub mod Gathering
+pub mod Lasting
 pub mod Parity
 pub mod Stable
 pub mod Sums

@@ -46,12 +46,12 @@ total_take op e f (s ∷ xs) zero unit none = sym (total_none op e f (s ∷ xs) 
 total_take op e f [] (suc n) unit none = refl
 total_take op e f (s ∷ xs) (suc n) unit none = ap (op (f s)) (total_take op e f xs n unit (λ k d l i. none (suc k) d (omega arith) (omega arith)))
 
-get_drop : (xs : List Strike) (n k : ℕ) (d : Strike) → get_or (drop n xs) k d ≡ get_or xs (n + k) d
+pub get_drop : (xs : List Strike) (n k : ℕ) (d : Strike) → get_or (drop n xs) k d ≡ get_or xs (n + k) d
 get_drop xs zero k d = let z : k ≡ 0 + k = omega arith in ap (λ j. get_or xs j d) z
 get_drop [] (suc n) k d = refl
 get_drop (s ∷ xs) (suc n) k d = let z : suc (n + k) ≡ suc n + k = omega arith in get_drop xs n k d ∙ ap (λ j. get_or (s ∷ xs) j d) z
 
-length_drop : (xs : List Strike) (n : ℕ) → length (drop n xs) ≡ length xs - n
+pub length_drop : (xs : List Strike) (n : ℕ) → length (drop n xs) ≡ length xs - n
 length_drop xs zero = omega arith
 length_drop [] (suc n) = omega arith
 length_drop (s ∷ xs) (suc n) = let r = length_drop xs n in omega (arith, r)
@@ -60,17 +60,26 @@ length_drop (s ∷ xs) (suc n) = let r = length_drop xs n in omega (arith, r)
 abbrev OfKey : {M : Type 0} → ℕ → M → (Strike → M) → Type 0
 OfKey q e f = (s : Strike) → key_of s ≢ q → f s ≡ e
 
+-- those between two places, where the others give nothing
+pub total_between : {M : Type 0} (op : M → M → M) (e : M) (f : Strike → M) (xs : List Strike) (low high : ℕ) → ((x : M) → op e x ≡ x) → low ≤ high
+    → ((k : ℕ) (d : Strike) → k < low → k < length xs → f (get_or xs k d) ≡ e)
+    → ((k : ℕ) (d : Strike) → high ≤ k → k < length xs → f (get_or xs k d) ≡ e)
+    → total op e f (take (high - low) (drop low xs)) ≡ total op e f xs
+total_between op e f xs low high unit o below above =
+    total_take op e f (drop low xs) (high - low) unit
+    (λ k d l i.
+    let n = length_drop xs low in
+    let j : low + k < length xs = omega (arith, n, o) in
+    let m : high ≤ low + k = omega (arith, o) in
+    ap f (get_drop xs low k d) ∙ above (low + k) d m j)
+    ∙ total_drop op e f xs low unit below
+
 total_bucket : {M : Type 0} (op : M → M → M) (e : M) (f : Strike → M) (q : ℕ) (xs b : List Strike) → ((x : M) → op e x ≡ x) → OfKey q e f → IsBucket q xs b → total op e f b ≡ total op e f xs
 total_bucket op e f q xs b unit of h =
     ap (total op e f) h.is
-    ∙ total_take op e f (drop h.low xs) (h.high - h.low) unit
-    (λ k d l i.
-    let n = length_drop xs h.low in let o = h.order in
-    let j : h.low + k < length xs = omega (arith, n, o) in
-    let m : h.high ≤ h.low + k = omega (arith, o) in
-    let a = h.above (h.low + k) d m j in
-    ap f (get_drop xs h.low k d) ∙ of (get_or xs (h.low + k) d) (λ same. absurd (omega (arith, a, same))))
-    ∙ total_drop op e f xs h.low unit (λ k d l i. let a = h.below k d l i in of (get_or xs k d) (λ same. absurd (omega (arith, a, same))))
+    ∙ total_between op e f xs h.low h.high unit h.order
+    (λ k d l i. let a = h.below k d l i in of (get_or xs k d) (λ same. absurd (omega (arith, a, same))))
+    (λ k d l i. let a = h.above k d l i in of (get_or xs k d) (λ same. absurd (omega (arith, a, same))))
 
 lt_same : (a : ℕ) → is_lt (nat_cmp a a) ≡ false
 lt_same a = grind (arith, nat_tests)
@@ -156,7 +165,7 @@ store_found ls xs b c n h k = store_total b c n ∙ total_found first_some None 
 covers_one : (from m n : ℕ) → eqb m 1 ≡ true → covers from (Some m) n ≡ eqb from n
 covers_one from m n e = grind (arith, nat_tests)
 
-three_none : (a b d x : Bool) (v : ℕ) → a && d ≡ false → cond (a && (b && (d && x))) v 0 ≡ 0
+pub three_none : (a b d x : Bool) (v : ℕ) → a && d ≡ false → cond (a && (b && (d && x))) v 0 ≡ 0
 three_none true b true x v e = absurd cc
 three_none true true false x v e = refl
 three_none true false false x v e = refl
@@ -176,7 +185,7 @@ brief_of_key c n k u (Word core at word bit) ne = refl
 pub brief_found : (ls xs b : List Strike) (c n k : ℕ) (u : Unit) → IsIndex ls xs → IsBucket (key c n) xs b → brief_mask b c u n k ≡ brief_mask ls c u n k
 brief_found ls xs b c n k u h q = total_found bit_xor 0 (λ s. brief_byte s c u n k) c n ls xs b xor_zero_l (brief_of_key c n k u) h q
 
-xor_swap : (a b c : ℕ) → bit_xor a (bit_xor b c) ≡ bit_xor b (bit_xor a c)
+pub xor_swap : (a b c : ℕ) → bit_xor a (bit_xor b c) ≡ bit_xor b (bit_xor a c)
 xor_swap a b c = sym (xor_assoc a b c) ∙ ap (λ x. bit_xor x c) (xor_comm a b) ∙ xor_assoc b a c
 
 -- one line more, brief or lasting

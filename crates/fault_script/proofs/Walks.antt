@@ -1,17 +1,18 @@
 -- How many strikes of a sorted list are below a key, and where the others begin.
-use Rattle.std.proofs.Common.{◌≡◌, ℕ, zero, suc, ◌+◌, ◌*◌, ◌^◌, ◌-◌, ◌<◌, ◌≤◌, ◌≢◌, Bool, true, false, cond, ltb, List, [], ◌∷◌, length, take, drop, get_or, refl, sym, ap, subst, ◌∙◌, arith, inl, inr, IsPermutation}
-use Rattle.std.specs.List.{count_by}
+use Rattle.std.proofs.Common.{◌≡◌, ℕ, zero, suc, ◌+◌, ◌-◌, ◌<◌, ◌≤◌, ◌≢◌, true, false, cond, ltb, List, [], ◌∷◌, length, take, drop, get_or, refl, sym, ap, subst, ◌∙◌, arith, inl, inr, flat_map}
 use Rattle.std.specs.List.Sorted.{IsNonDecreasingBy}
 use Rattle.std.proofs.lemmas.List.Sums.{sum_by-cons, count_by-le-length}
 use Rattle.std.proofs.lemmas.List.Sorted.{sum_by-IsPermutation, length_permutation}
 use Rattle.std.proofs.lemmas.Bool.{cases_lt}
 use Rattle.std.proofs.lemmas.Bool.Decides.{nat_tests}
 use Rattle.run_model.specs.declared.faults.Strike.{Strike}
-use Rattle.fault_script.specs.Index.{key, key_of, IsFirst, IsIndex}
-use Rattle.fault_script.specs.Totals.{IsPart}
+use Rattle.run_model.specs.Script.{AllInRange}
+use Rattle.fault_script.specs.Index.{key, key_of, if_lasting, IsFirst, IsIndex}
+use Rattle.fault_script.specs.Totals.{IsPart, IsLastingPart}
 use Rattle.fault_script.specs.Walk.{count_below, before, IsAt}
 use Rattle.fault_script.specs.declared.walking.Cursor.{Cursor}
 use Rattle.fault_script.proofs.Buckets.{bucket_between, first_up, first_down}
+use Rattle.fault_script.proofs.Lasting.{lasting_found}
 use Rattle.fault_script.proofs.Sums.{part_found}
 
 less : (a q : ℕ) → a < q → ltb a q ≡ true
@@ -138,40 +139,76 @@ nothing_past q xs from rises first k d l i =
 same_count : (ls xs : List Strike) (q : ℕ) → IsIndex ls xs → count_below q xs ≡ count_below q ls
 same_count ls xs q h = sum_by-IsPermutation (λ (y : Strike). cond (ltb (key_of y) q) 1 0) ls xs h.same
 
-pub at_start : (ls xs : List Strike) (c p : ℕ) → IsIndex ls xs → IsFirst (key c 0) xs p p → p ≤ length xs → IsAt ls c 0 (record { low = p; high = p })
+pub at_start : (ls xs ms : List Strike) (c p q : ℕ) → IsIndex ls xs → IsIndex (flat_map if_lasting ls) ms → IsFirst (key c 0) xs p p → p ≤ length xs → IsFirst (key c 0) ms q q → q ≤ length ms → IsAt ls c 0 (record { low = p; high = p; lasting_low = q; lasting_high = q })
 unfolding before
-at_start ls xs c p h f l =
+at_start ls xs ms c p q h j f l g m =
     let e : p ≡ count_below (key c 0) ls = count_first (key c 0) xs p f l ∙ same_count ls xs (key c 0) h in
+    let d : q ≡ count_below (key c 0) (flat_map if_lasting ls) = count_first (key c 0) ms q g m ∙ same_count (flat_map if_lasting ls) ms (key c 0) j in
     let same = length_permutation ls xs h.same in
-    record { low = e; high = e; order = omega arith; inside = omega (arith, same) }
+    let lasting = length_permutation (flat_map if_lasting ls) ms j.same in
+    record {
+      low = e;
+      high = e;
+      order = omega arith;
+      inside = omega (arith, l, same);
+      lasting_low = d;
+      lasting_high = d;
+      lasting_order = omega arith;
+      lasting_inside = omega (arith, m, lasting);
+    }
 
 pub high_is : (ls xs : List Strike) (c n : ℕ) (at : Cursor) → IsIndex ls xs → IsAt ls c n at → at.high ≡ count_below (key c n) xs
 unfolding before
 high_is ls xs c n at h a = a.high ∙ sym (same_count ls xs (key c n) h)
 
-pub at_next : (ls xs : List Strike) (c n p : ℕ) (at : Cursor) → IsIndex ls xs → IsAt ls c n at → p ≡ count_below (key c n + 1) xs → at.high ≤ p → p ≤ length xs → IsAt ls c (n + 1) (record { low = at.high; high = p })
+pub lasting_is : (ls ms : List Strike) (c n : ℕ) (at : Cursor) → IsIndex (flat_map if_lasting ls) ms → IsAt ls c n at → at.lasting_high ≡ count_below (key c n) ms
 unfolding before
-at_next ls xs c n p at h a e o l =
+lasting_is ls ms c n at j a = a.lasting_high ∙ sym (same_count (flat_map if_lasting ls) ms (key c n) j)
+
+pub at_next : (ls xs ms : List Strike) (c n p q : ℕ) (at : Cursor) → IsIndex ls xs → IsIndex (flat_map if_lasting ls) ms → IsAt ls c n at
+    → p ≡ count_below (key c n + 1) xs → at.high ≤ p → p ≤ length xs
+    → q ≡ count_below (key c n + 1) ms → at.lasting_high ≤ q → q ≤ length ms
+    → IsAt ls c (n + 1) (record { low = at.high; high = p; lasting_low = at.lasting_low; lasting_high = q })
+unfolding before
+at_next ls xs ms c n p q at h j a e o l d r m =
     let k : key c n + 1 ≡ key c (n + 1) = omega arith in
     let z : n ≡ n + 1 - 1 = omega arith in
     let same = length_permutation ls xs h.same in
+    let lasting = length_permutation (flat_map if_lasting ls) ms j.same in
+    let before_all = a.lasting_order in
     record {
       low = a.high ∙ ap (before ls c) z;
       high = e ∙ same_count ls xs (key c n + 1) h ∙ ap (λ q. count_below q ls) k;
       order = o;
-      inside = omega (arith, same);
+      inside = omega (arith, l, same);
+      lasting_low = a.lasting_low;
+      lasting_high = d ∙ same_count (flat_map if_lasting ls) ms (key c n + 1) j ∙ ap (λ q. count_below q (flat_map if_lasting ls)) k;
+      lasting_order = omega (arith, r, before_all);
+      lasting_inside = omega (arith, m, lasting);
     }
 
 pub inside_order : (ls xs : List Strike) (n : ℕ) → IsIndex ls xs → n ≤ length ls → n ≤ length xs
 inside_order ls xs n h l = let same = length_permutation ls xs h.same in omega (arith, same)
+
+-- a place of which it is known how many are below it
+first_at : (ls xs : List Strike) (q n : ℕ) → IsIndex ls xs → n ≡ count_below q ls → IsFirst q xs n n
+first_at ls xs q n h e =
+    let same : count_below q xs ≡ n = same_count ls xs q h ∙ sym e in
+    subst (λ p. IsFirst q xs p p) same (first_count q xs h.rises)
 
 pub part_at : (ls xs b : List Strike) (at : Cursor) → IsIndex ls xs → b ≡ take (at.high - at.low) (drop at.low xs) → (c n : ℕ) → IsAt ls c (n + 1) at → IsPart ls b c n
 unfolding before
 part_at ls xs b at h is c n a =
     let k : key c (n + 1) ≡ key c n + 1 = omega arith in
     let z : n + 1 - 1 ≡ n = omega arith in
-    let low : count_below (key c n) xs ≡ at.low = same_count ls xs (key c n) h ∙ sym (a.low ∙ ap (before ls c) z) in
-    let high : count_below (key c n + 1) xs ≡ at.high = same_count ls xs (key c n + 1) h ∙ sym (a.high ∙ ap (λ q. count_below q ls) k) in
-    let f : IsFirst (key c n) xs at.low at.low = subst (λ p. IsFirst (key c n) xs p p) low (first_count (key c n) xs h.rises) in
-    let g : IsFirst (key c n + 1) xs at.high at.high = subst (λ p. IsFirst (key c n + 1) xs p p) high (first_count (key c n + 1) xs h.rises) in
+    let f = first_at ls xs (key c n) at.low h (a.low ∙ ap (before ls c) z) in
+    let g = first_at ls xs (key c n + 1) at.high h (a.high ∙ ap (λ q. count_below q ls) k) in
     part_found ls xs b c n h (bucket_between (key c n) xs b at.low at.high f g a.order is)
+
+pub lasting_at : (ls ms b : List Strike) (at : Cursor) → IsIndex (flat_map if_lasting ls) ms → AllInRange ms → b ≡ take (at.lasting_high - at.lasting_low) (drop at.lasting_low ms) → (c n : ℕ) → IsAt ls c (n + 1) at → IsLastingPart ls b c n
+unfolding before
+lasting_at ls ms b at j ranges is c n a =
+    let f = first_at (flat_map if_lasting ls) ms (key c 0) at.lasting_low j a.lasting_low in
+    let g = first_at (flat_map if_lasting ls) ms (key c (n + 1)) at.lasting_high j a.lasting_high in
+    let inside = inside_order (flat_map if_lasting ls) ms at.lasting_high j a.lasting_inside in
+    lasting_found ls ms b c n at.lasting_low at.lasting_high j ranges f g a.lasting_order inside is

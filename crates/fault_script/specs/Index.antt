@@ -61,10 +61,12 @@ pub record IsBucket (q : ℕ) (sorted bucket : List Strike) : Type 0 where
   pub above : (k : ℕ) (d : Strike) → high ≤ k → k < length sorted
       → q < key_of (slice_index_or sorted k d)
 
--- strikes in form, the same in order, and those of them that are not brief
-pub record IsIndexed (strikes sorted lasting : List Strike) : Type 0 where
+-- strikes in form, the same in order, those of them that are not brief, and these in order
+pub record IsIndexed (strikes sorted lasting lasting_sorted : List Strike) : Type 0 where
   pub form : InForm strikes
   pub index : IsIndex strikes sorted
   pub sorted_ranges : AllInRange sorted
   pub lasts : lasting ≡ flat_map if_lasting strikes
   pub lasting_ranges : AllInRange lasting
+  pub lasting_index : IsIndex (flat_map if_lasting strikes) lasting_sorted
+  pub lasting_sorted_ranges : AllInRange lasting_sorted

@@ -1,8 +1,9 @@
 -- What strikes flip together, by any way to join two contributions.
 -- Source: choice of this project.
-use Rattle.std.specs.Prelude.{ℕ, ◌≡◌, List, [], ◌∷◌, flat_map, bit_xor, if◌then◌else◌}
+use Rattle.std.specs.Prelude.{ℕ, ◌^◌, ◌<◌, ◌≡◌, Bool, ◌==◌, ◌&&◌, nat_le, IsTrue, List, [], ◌∷◌, All, flat_map, bit_xor, if◌then◌else◌}
 use Rattle.run_model.specs.Strikes.{in_byte, mask_byte, fetch_bit, store_bit, flips}
 use Rattle.run_model.specs.declared.faults.Strike.{Strike}
+use Rattle.run_model.specs.declared.faults.Strike.TheVariants.{Packet, Fetch, Store, Word}
 use Rattle.run_model.specs.declared.faults.Unit.{Unit}
 use Rattle.fault_script.specs.Index.{is_brief, if_lasting}
 
@@ -27,3 +28,19 @@ pub record IsPart (all part : List Strike) (c n : ℕ) : Type 0 where
   pub masks : (u : Unit) (k : ℕ)
       → bit_xor (brief_mask part c u n k) (mask_byte (flat_map if_lasting all) c u n k)
       ≡ mask_byte all c u n k
+
+-- ---- the strikes that last
+
+-- it is of core c, and its first attempt is n or an earlier one
+abbrev pub is_begun : ℕ → ℕ → Strike → Bool
+is_begun c n (Packet core first unit bit count) = (core.0 == c) && nat_le first n
+is_begun c n (Fetch core first bit) = (core.0 == c) && nat_le first n
+is_begun c n (Store core first bit) = (core.0 == c) && nat_le first n
+is_begun c n (Word core first word bit) = (core.0 == c) && nat_le first n
+
+-- some of those that last flip in packets what all of them flip at attempt n of core c, and each is
+-- of this core and begun by then
+pub record IsLastingPart (all part : List Strike) (c n : ℕ) : Type 0 where
+  pub masks : (u : Unit) (k : ℕ)
+      → mask_byte part c u n k ≡ mask_byte (flat_map if_lasting all) c u n k
+  pub begun : n < 2 ^ 64 → All (λ s. IsTrue (is_begun c n s)) part

@@ -1,6 +1,7 @@
 ghost use Rattle.std.specs.Prelude.{◌<◌, ◌^◌, length};
+ghost use Rattle.fault_script.specs.Walk.{IsAt};
 
-use crate::{ScriptRefusal, Strike, Unit, parse, within};
+use crate::{Cursor, Script, ScriptRefusal, Strike, Unit, parse, within};
 use esa_words::decimal;
 use run_model::faults::CoreNo;
 use std::alloc::Global;
@@ -206,5 +207,101 @@ fn many_latches(rt: HostRuntime) -> Result<(), Fail> {
     text.extend_from_slice(b"F 0 9998 64\n")?;
     assert!(rt; text.len() < 200_000);
     assert!(rt; refuses(rt.alloc(), &text, ScriptRefusal::TwoAtOneAttempt(10_000)));
+    Ok(())
+}
+
+// The cursor of a core after so many of its attempts.
+fn after(script: &Script, core: CoreNo, attempts: u64) -> Cursor
+    ensures { IsAt script.now core.0 attempts result }
+{
+    let mut at = script.start(core);
+    for n in 0..attempts {
+        at = script.next(at, core, n);
+    }
+    at
+}
+
+fn bit_of(s: &Strike) -> u64 {
+    match *s {
+        Strike::Packet(_, _, _, bit, _) => u64::from(bit),
+        Strike::Fetch(_, _, bit) => u64::from(bit),
+        Strike::Store(_, _, bit) => u64::from(bit),
+        Strike::Word(_, _, _, bit) => u64::from(bit),
+    }
+}
+
+// Their bits in a row, each below 10, as a decimal.
+fn bits_of(strikes: &[Strike]) -> u64 {
+    let mut bits = 0_u64;
+    for s in strikes {
+        bits = bits.wrapping_mul(10).wrapping_add(bit_of(s));
+    }
+    bits
+}
+
+// Whether these are the bits of the last attempt begun, and of the lasting strikes of the core.
+fn has(script: &Script, core: u8, attempts: u64, last: u64, lasting: u64) -> bool {
+    let at = after(script, CoreNo(core), attempts);
+    let found = bits_of(script.under(at));
+    let found_lasting = bits_of(script.lasting_under(at));
+    found == last && found_lasting == lasting
+}
+
+// For a core and so many attempts. Each strike has a bit of its own.
+#[test]
+fn walked_by_attempt(rt: HostRuntime) {
+    match parse(
+        rt.alloc(),
+        b"U 0 3 A 8 *\nF 0 1 3\nU 1 1 B 9 5\nU 0 0 A 7 2\n\
+          S 0 1 4\nW 0 1 5 6\nU 0 1 B 2 1\nU 0 1 B 5 *",
+    ) {
+        Ok(script) => {
+            assert!(rt; has(&script, 0, 0, 0, 0));
+            assert!(rt; has(&script, 0, 1, 7, 7));
+            assert!(rt; has(&script, 0, 2, 34625, 75));
+            assert!(rt; has(&script, 0, 3, 0, 75));
+            assert!(rt; has(&script, 0, 4, 8, 758));
+            assert!(rt; has(&script, 0, 9, 0, 758));
+            assert!(rt; has(&script, 1, 1, 0, 0));
+            assert!(rt; has(&script, 1, 2, 9, 9));
+            assert!(rt; has(&script, 1, 3, 0, 9));
+            assert!(rt; has(&script, 15, 2, 0, 0));
+        }
+        Err(_) => assert!(rt; false),
+    }
+}
+
+// How many strikes of a core last, after so many attempts.
+fn lasting_after(script: &Script, core: u8, attempts: u64) -> usize {
+    let at = after(script, CoreNo(core), attempts);
+    script.lasting_under(at).len()
+}
+
+// The lines `U c n A b *`: b from 0 to 99, c the 16 cores in turn, n one more after each sixteen.
+#[test]
+fn many_that_last(rt: HostRuntime) -> Result<(), Fail> {
+    let mut text = Vec::new(rt.alloc());
+    for bit in 0..100_u64 {
+        text.extend_from_slice(b"U ")?;
+        text.extend_from_slice(decimal(bit % 16).as_slice())?;
+        text.extend_from_slice(b" ")?;
+        text.extend_from_slice(decimal(bit / 16).as_slice())?;
+        text.extend_from_slice(b" A ")?;
+        text.extend_from_slice(decimal(bit).as_slice())?;
+        text.extend_from_slice(b" *\n")?;
+    }
+    assert!(rt; text.len() < 2_000);
+    match parse(rt.alloc(), &text) {
+        Ok(script) => {
+            assert_eq!(rt; script.lasting().len(), 100);
+            assert_eq!(rt; lasting_after(&script, 0, 0), 0);
+            assert_eq!(rt; lasting_after(&script, 0, 3), 3);
+            assert_eq!(rt; lasting_after(&script, 3, 7), 7);
+            assert_eq!(rt; lasting_after(&script, 4, 7), 6);
+            assert_eq!(rt; lasting_after(&script, 15, 1), 1);
+            assert_eq!(rt; lasting_after(&script, 15, 1000), 6);
+        }
+        Err(_) => assert!(rt; false),
+    }
     Ok(())
 }

@@ -5,7 +5,7 @@ ghost use Rattle.std.specs.Prelude.{◌≡◌, ℕ, ◌+◌, ◌≤◌, ◌↔�
 ghost use Rattle.run_model.specs.Premise.{Within};
 ghost use Rattle.run_model.specs.Script.{AllInRange, InForm};
 ghost use Rattle.fault_script.specs.Index.{if_lasting};
-ghost use Rattle.fault_script.specs.Totals.{IsPart};
+ghost use Rattle.fault_script.specs.Totals.{IsPart, IsLastingPart};
 ghost use Rattle.fault_script.specs.Walk.{IsAt};
 
 use crate::gathered::Gathered;
@@ -22,6 +22,7 @@ pub struct Script {
     strikes: Vec<Strike>,
     sorted: Vec<Strike>,
     lasting: Vec<Strike>,
+    lasting_sorted: Vec<Strike>,
     is_within: bool,
 }
 
@@ -37,7 +38,7 @@ impl Model for Script {
 
     ghost invariant = { λ s. record {
       verdict : IsTrue s.is_within ↔ Within s.strikes.items;
-      indexed : IsIndexed s.strikes.items s.sorted.items s.lasting.items;
+      indexed : IsIndexed s.strikes.items s.sorted.items s.lasting.items s.lasting_sorted.items;
     } };
 }
 
@@ -58,10 +59,12 @@ pub fn script_of(alloc: Global, gathered: Gathered) -> Result<Script, AllocError
     let is_within = is_within(alloc, &strikes)?;
     let sorted = index_of(alloc, &strikes)?;
     let lasting = lasting_of(alloc, &strikes)?;
+    let lasting_sorted = index_of(alloc, &lasting)?;
     Ok(Script {
         strikes,
         sorted,
         lasting,
+        lasting_sorted,
         is_within,
     })
 }
@@ -96,10 +99,14 @@ impl Script {
     pub fn start(&self, core: CoreNo) -> Cursor
         ensures { IsAt self.now core.0 0 result }
     {
-        let first = first_from(&self.sorted, number(core, 0));
+        let q = number(core, 0);
+        let first = first_from(&self.sorted, q);
+        let lasting = first_from(&self.lasting_sorted, q);
         Cursor {
             low: first,
             high: first,
+            lasting_low: lasting,
+            lasting_high: lasting,
         }
     }
 
@@ -108,9 +115,14 @@ impl Script {
         requires { IsAt self.now core.0 begun cursor }
         ensures { IsAt self.now core.0 (begun + 1) result }
     {
+        let q = number(core, begun);
+        let high = past(&self.sorted, q, cursor.high);
+        let lasting_high = past(&self.lasting_sorted, q, cursor.lasting_high);
         Cursor {
             low: cursor.high,
-            high: past(&self.sorted, number(core, begun), cursor.high),
+            high,
+            lasting_low: cursor.lasting_low,
+            lasting_high,
         }
     }
 
@@ -123,6 +135,22 @@ impl Script {
             → IsPart self.now result.now core attempt }
     {
         between(&self.sorted, cursor.low, cursor.high)
+    }
+
+    /// The strikes of packets of a core that last more attempts than one, and whose first attempt
+    /// is the last one begun or an earlier one: at it they flip what all that last flip.
+    pub fn lasting_under(&self, cursor: Cursor) -> &[Strike]
+        requires order { cursor.lasting_low ≤ cursor.lasting_high }
+        requires inside { cursor.lasting_high ≤ length (flat_map if_lasting self.now) }
+        ensures ranges { AllInRange result.now }
+        ensures part { (core attempt : ℕ) → IsAt self.now core (attempt + 1) cursor
+            → IsLastingPart self.now result.now core attempt }
+    {
+        between(
+            &self.lasting_sorted,
+            cursor.lasting_low,
+            cursor.lasting_high,
+        )
     }
 }
 

@@ -10,12 +10,15 @@ ghost use Rattle.fault_script.specs.Walk.{count_below, IsAt};
 use crate::order::key_of_strike;
 use run_model::faults::Strike;
 
-/// Where the strikes of the last attempt of a core that was begun stand in a script's order. It is
-/// of use only with the script, the core and the number of attempts that it was made for.
+/// Where the strikes of the last attempt of a core that was begun stand in a script's order, and
+/// where those of the core that last and were begun by then stand in theirs. It is of use only with
+/// the script, the core and the number of attempts that it was made for.
 #[derive(Clone, Copy)]
 pub struct Cursor {
     pub(crate) low: usize,
     pub(crate) high: usize,
+    pub(crate) lasting_low: usize,
+    pub(crate) lasting_high: usize,
 }
 
 impl Cursor {
@@ -24,7 +27,12 @@ impl Cursor {
     pub fn nowhere() -> Cursor
         ensures { (core begun : ℕ) → IsAt [] core begun result }
     {
-        Cursor { low: 0, high: 0 }
+        Cursor {
+            low: 0,
+            high: 0,
+            lasting_low: 0,
+            lasting_high: 0,
+        }
     }
 }
 

@@ -10,7 +10,7 @@ use Rattle.run_model.specs.Strikes.{mask_byte, flips, fetch_bit, store_bit, fetc
 use Rattle.silicon.proofs.Masked.{masked_by_same, masked_none}
 use Rattle.silicon.specs.Landing.{UpTo, LandsAll}
 use Rattle.fault_script.specs.Index.{if_lasting}
-use Rattle.fault_script.specs.Totals.{brief_mask, IsPart}
+use Rattle.fault_script.specs.Totals.{brief_mask, IsPart, IsLastingPart}
 use Rattle.silicon.proofs.Masks.{masked_twice}
 
 small_first : (most : ℕ) (o p : Option ℕ) → UpTo most o → UpTo most p → UpTo most (first_some o p)
@@ -45,11 +45,11 @@ small_store [] c n ranges = tt
 small_store (s ∷ ss) c n ranges =
     small_first 4096 (store_in s c n) (store_bit ss c n) (small_store_in s c n ranges.0) (small_store ss c n ranges.1)
 
-pub both_masks : (ls b : List Strike) (c n : ℕ) (u : Unit) (bs : List ℕ) → IsPart ls b c n
-    → masked (mask_byte (flat_map if_lasting ls) c u n) 0 (masked (brief_mask b c u n) 0 bs) ≡ masked (mask_byte ls c u n) 0 bs
-both_masks ls b c n u bs h =
-    masked_twice (brief_mask b c u n) (mask_byte (flat_map if_lasting ls) c u n) 0 bs
-    ∙ masked_by_same _ _ 0 bs (λ j l. h.masks u (0 + j))
+pub both_masks : (ls b t : List Strike) (c n : ℕ) (u : Unit) (bs : List ℕ) → IsPart ls b c n → IsLastingPart ls t c n
+    → masked (mask_byte t c u n) 0 (masked (brief_mask b c u n) 0 bs) ≡ masked (mask_byte ls c u n) 0 bs
+both_masks ls b t c n u bs h g =
+    masked_twice (brief_mask b c u n) (mask_byte t c u n) 0 bs
+    ∙ masked_by_same _ _ 0 bs (λ j l. ap (bit_xor (brief_mask b c u n (0 + j))) (g.masks u (0 + j)) ∙ h.masks u (0 + j))
 
 pub no_lines : (c n : ℕ) (u : Unit) (bs : List ℕ) → bs ≡ masked (mask_byte [] c u n) 0 bs
 unfolding mask_byte

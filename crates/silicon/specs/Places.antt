@@ -6,7 +6,7 @@ use Rattle.fault_script.specs.declared.walking.Cursor.{Cursor}
 
 -- a cursor for the cores that are none
 abbrev pub nowhere : Cursor
-nowhere = record { low = 0; high = 0 }
+nowhere = record { low = 0; high = 0; lasting_low = 0; lasting_high = 0 }
 
 -- that of each core, where so many of its attempts were begun
 abbrev pub AllAt : List Strike → (ℕ → ℕ) → List Cursor → Type 0

@@ -1,4 +1,5 @@
-// What a script flips at an attempt: a step for each of its strikes then, and for each that lasts.
+// What a script flips at an attempt: a step for each of its strikes then, and for each strike of
+// the core that lasts and was begun.
 #![tactic(auto)]
 
 ghost use Rattle.std.specs.Prelude.{◌≡◌, ◌+◌, ◌<◌, length, replicate};
@@ -57,7 +58,7 @@ pub fn strike_packet(
         None => {}
         Some(script) => {
             flip_by_briefs(packet, script.under(at), core, unit, n);
-            flip_packet(packet, script.lasting(), core, unit, n);
+            flip_packet(packet, script.lasting_under(at), core, unit, n);
         }
     }
 }
