@@ -102,13 +102,13 @@ core_is (Lost c retries) s i e = e.1
 core_is Taken s i e = absurd e
 
 -- whether the CPU waits, where that is asked
-waits_for : Held → ℕ → Side → Bool
+pub waits_for : Held → ℕ → Side → Bool
 waits_for (Running k) i seen = is_idle (due_beside k.registers i seen)
 waits_for (Recovering k) i seen = true
 waits_for (Lost c retries) i seen = true
 waits_for Taken i seen = true
 
-waits_right : (h : Held) (i : ℕ) (seen : Side) → WaitsAs h i seen (waits_for h i seen)
+pub waits_right : (h : Held) (i : ℕ) (seen : Side) → WaitsAs h i seen (waits_for h i seen)
 unfolding waits_for
 waits_right (Running k) i seen = refl
 waits_right (Recovering k) i seen = tt
@@ -241,6 +241,21 @@ follows_of m m2 cpu z z2 es t turn x h st bounded known got placed put counts to
 
 some_is : (g h : Held) → ◌≡◌ {A = Option Held} (Some g) (Some h) → g ≡ h
 some_is g h e = cc e
+
+-- what holds of a turn's held core before it and of what it leaves
+pub held_then : (P : Held → Held → Type 0) (cpus items : List Held) (i : ℕ) (was t h after : Held)
+    → slice_get cpus i ≡ Some was → items ≡ slice_set cpus i t → P was t
+    → slice_get cpus i ≡ Some h → slice_get items i ≡ Some after → P h after
+held_then P cpus items i was t h after got put holds there now =
+    let same : was ≡ h = some_is was h (sym got ∙ there) in
+    let left : after ≡ t = get_same cpus i after t
+    (subst (λ q. slice_get q i ≡ Some after) put now) in
+    subst (λ (q : Held). P h q) (sym left) (subst (λ (q : Held). P q t) same holds)
+
+pub held_before : (P : Held → Type 0) (cpus : List Held) (i : ℕ) (was h : Held)
+    → slice_get cpus i ≡ Some was → P was → slice_get cpus i ≡ Some h → P h
+held_before P cpus i was h got holds there =
+    subst (λ (q : Held). P q) (some_is was h (sym got ∙ there)) holds
 
 pub goes_of : (m : Machine) (items : List Held) (cpu : CpuNo) (z : Chip) (es : List Entry)
     (o : Outcome) (n : ℕ) (was t h after : Held) (pool : CorePool)

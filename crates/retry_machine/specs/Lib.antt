@@ -1,4 +1,5 @@
 pub mod Counts
 pub mod Fits
 pub mod Standing
+pub mod Starting
 pub mod Turning

@@ -5,6 +5,7 @@ mod counts;
 mod keys;
 mod machine;
 mod returning;
+mod starting;
 mod state;
 mod turning;
 mod turns;
@@ -12,3 +13,6 @@ mod turns;
 pub use core_turns::Outcome;
 pub use machine::Machine;
 pub use turns::Turn;
+
+#[cfg(test)]
+mod tests;

@@ -1,17 +1,43 @@
 // What can be seen of a machine.
-ghost use Rattle.std.specs.Prelude.{◌≡◌, ◌<◌, length, slice_get};
+ghost use Rattle.std.specs.Prelude.{◌≡◌, ◌<◌, is_some, length, slice_get};
+ghost use Rattle.std.specs.Option.{option_map};
 ghost use Rattle.esa_model.specs.Bus.{signals_of};
+ghost use Rattle.run_model.specs.Cores.{Cores};
 ghost use Rattle.run_model.specs.Runs.{Model};
 ghost use Rattle.silicon.specs.Chip.{Chip};
-ghost use Rattle.retry_machine.specs.Standing.{StandsFor};
+ghost use Rattle.retry_machine.specs.Standing.{StandsByMode, StandsFor, is_running, registers_held, registers_in};
 ghost use Rattle.retry_machine.specs.Turning.{core_at};
 
 use crate::machine::Machine;
 use crate::turning::core_held;
-use esa_model::machine::{CpuNo, CpuState};
+use core_turns::Held;
+use esa_model::machine::{CpuNo, CpuState, Registers};
 use run_model::faults::CoreNo;
+use run_model::logs::Config;
+
+/// The registers that are held for a CPU.
+fn held_registers(held: &Held) -> Option<&Registers>
+    ensures { option_map (λ r. r.now) result ≡ registers_held held.now }
+{
+    match held {
+        Held::Running(k) => Some(k.registers()),
+        Held::Recovering(_) | Held::Lost(_, _) | Held::Taken => None,
+    }
+}
 
 impl Machine {
+    /// The registers of a CPU; `None` exactly where its core does not run.
+    pub fn registers(&self, cpu: CpuNo) -> Option<&Registers>
+        requires known { cpu.0 < self.now.config.cpus }
+        ensures runs { (s : Cores) → StandsByMode self.now s
+            → is_some result ≡ is_running (s.mode cpu.0) }
+        ensures registers { (z : Chip) → (x : Model) → StandsFor self.now z x
+            → option_map (λ r. r.now) result
+            ≡ registers_in (x.fate.cores.mode cpu.0) (x.machine.registers cpu.0) }
+    {
+        held_registers(&self.cpus[cpu.0 as usize])
+    }
+
     /// The core of a CPU; of one that is check-stopped for good, the core that it had.
     pub fn core(&self, cpu: CpuNo) -> CoreNo
         requires known { cpu.0 < self.now.config.cpus }
@@ -71,6 +97,13 @@ impl Machine {
             → result ≡ x.fate.cores.commits }
     {
         self.counts.commits()
+    }
+
+    /// How the machine is made.
+    pub fn config(&self) -> &Config
+        ensures { result.now ≡ self.now.config }
+    {
+        &self.config
     }
 
     /// The number of CPUs.

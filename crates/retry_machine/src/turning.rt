@@ -3,11 +3,12 @@ ghost use Rattle.std.specs.Prelude.{◌≡◌, ◌≤◌, ◌<◌, ◌+◌, ◌-
 ghost use Rattle.esa_model.specs.Changes.{stretches};
 ghost use Rattle.run_model.specs.Cores.{Cores};
 ghost use Rattle.run_model.specs.declared.schedules.RunKind.TheVariants as kinds;
-ghost use Rattle.core_turns.specs.ChipAfter.{Rises};
+ghost use Rattle.core_turns.specs.ChipAfter.{Rises, TurnChanges};
 ghost use Rattle.core_turns.specs.Giving.{StaysUnlessCommitted};
-ghost use Rattle.core_turns.specs.Handing.{calls_of};
+ghost use Rattle.core_turns.specs.Handing.{Finds, HandsIn, calls_of};
 ghost use Rattle.core_turns.specs.Held.{core_of};
-ghost use Rattle.core_turns.specs.Meeting.{TurnGoes};
+ghost use Rattle.core_turns.specs.Meeting.{TurnGoes, next_cause, why_met};
+ghost use Rattle.core_turns.specs.Recovered.{Recovers};
 ghost use Rattle.retry_machine.specs.Standing.{StandsByMode};
 ghost use Rattle.retry_machine.specs.Turning.{FollowsAll, Obeys, core_at, told_by};
 
@@ -65,6 +66,22 @@ impl Machine {
             → TurnGoes self.old.config.threshold (self.old.counts.turns + 1) cpu.0 h
             self.old.side self.old.pool (Z.seen z.old) result.entries.items result.outcome after
             self.new.pool }
+        ensures chip { (h after : Held) → slice_get self.old.cpus.items cpu.0 ≡ Some h
+            → slice_get self.new.cpus.items cpu.0 ≡ Some after
+            → TurnChanges self.old.config.threshold cpu.0 h self.old.side self.old.pool
+            (why_met (Z.seen z.old) h result.outcome) after (Z.seen z.old) (Z.seen z.new) }
+        ensures recovered { (h after : Held) → slice_get self.old.cpus.items cpu.0 ≡ Some h
+            → slice_get self.new.cpus.items cpu.0 ≡ Some after
+            → Recovers h (Z.seen z.old) after }
+        ensures causes { IsTrue (P.seen a.old).exact → IsTrue (Q.seen b.old).exact
+            → (h : Held) → slice_get self.old.cpus.items cpu.0 ≡ Some h
+            → why_met (Z.seen z.old) h result.outcome ≡ next_cause (Z.seen z.old) (core_of h) }
+        ensures finds { (h : Held) → slice_get self.old.cpus.items cpu.0 ≡ Some h
+            → Finds h (Z.seen z.old) cpu.0 self.old.memory.bytes self.old.side
+            (P.seen a.new) (Q.seen b.new) result.outcome }
+        ensures tape { (h : Held) → slice_get self.old.cpus.items cpu.0 ≡ Some h
+            → HandsIn h (Z.seen z.old) cpu.0 self.old.memory.bytes self.old.side
+            (P.seen a.new) (Q.seen b.new) result.outcome (Z.tape z.old) (Z.tape z.new) }
         ensures quiet { StaysUnlessCommitted result.outcome self.old.memory.bytes
             self.new.memory.bytes }
         ensures calls_a { (P.seen a.new).calls ≡ (P.seen a.old).calls + calls_of result.outcome }

@@ -8,6 +8,7 @@ use Rattle.std.proofs.Common.{
   ℕ,
   true,
   length,
+  Option,
   Some,
   refl,
   sym,
@@ -18,11 +19,16 @@ use Rattle.std.proofs.Common.{
 }
 use Rattle.std.proofs.lemmas.List.{length-set}
 use Rattle.std.proofs.lemmas.Option.{slice_get_read}
+use Rattle.core_turns.specs.ChipAfter.{TurnChanges}
+use Rattle.core_turns.specs.Handing.{Finds, HandsIn}
+use Rattle.core_turns.specs.Held.{core_of}
+use Rattle.core_turns.specs.Meeting.{next_cause, why_met}
 use Rattle.core_turns.specs.Places.{EachInOnePlace}
+use Rattle.core_turns.specs.Recovered.{Recovers}
 use Rattle.core_turns.specs.declared.held.Held.{Held}
 use Rattle.core_turns.proofs.Sums.{once, set_twice, still_placed}
 use Rattle.retry_machine.specs.Fits.{IsFitting, all_there}
-use Rattle.retry_machine.proofs.Obeying.{before_turn, follows_of, goes_of, obeys_of, there_at, there_set}
+use Rattle.retry_machine.proofs.Obeying.{before_turn, follows_of, goes_of, held_before, held_then, obeys_of, there_at, there_set}
 use Rattle.retry_machine.proofs.machine.Machine.turn.Goals as goal
 
 pub turn_held-turned-requires-clause-once : goal.turn_held-turned-requires-clause-once
@@ -113,3 +119,77 @@ returns-clause-goes g c = λ h after there now.
     c.new-journal.ensures.turn ∙ ap (λ n. n + 1) c.turns.ensures.turns in
     goes_of m _ c.args.cpu (g.Z.Silicon.seen c.args.z.now) _ _ _ was t.held h after _ got number
     (set_twice cpus i c.replace-held.new.dest t.held) c.turn_held-turned.ensures.goes there now
+
+pub returns-clause-chip : goal.returns-clause-chip
+returns-clause-chip g c = λ h after there now.
+    let m = c.args.self.now in
+    let cpus = m.cpus.items in
+    let i = c.args.cpu.0 in
+    let was = c.replace-held.result in
+    let inside : i < length cpus = subst (λ (n : ℕ). i < n) m.fits.cpus c.requires.known in
+    let got : slice_get cpus i ≡ Some was =
+    slice_get_read cpus _ i c.index_mut.result.now refl inside c.index_mut.ensures.value
+    ∙ ap (λ (q : Held). Some q) (sym c.replace-held.ensures.value) in
+    let t = c.turn_held-turned.result in
+    let z = g.Z.Silicon.seen c.args.z.now in
+    held_then (λ p q. TurnChanges m.config.threshold i p m.side m.pool (why_met z p t.outcome) q z
+    (g.Z.Silicon.seen c.turn_held-turned.new.z)) cpus _ i was t.held h after got
+    (set_twice cpus i c.replace-held.new.dest t.held) c.turn_held-turned.ensures.chip there now
+
+pub returns-clause-recovered : goal.returns-clause-recovered
+returns-clause-recovered g c = λ h after there now.
+    let m = c.args.self.now in
+    let cpus = m.cpus.items in
+    let i = c.args.cpu.0 in
+    let was = c.replace-held.result in
+    let inside : i < length cpus = subst (λ (n : ℕ). i < n) m.fits.cpus c.requires.known in
+    let got : slice_get cpus i ≡ Some was =
+    slice_get_read cpus _ i c.index_mut.result.now refl inside c.index_mut.ensures.value
+    ∙ ap (λ (q : Held). Some q) (sym c.replace-held.ensures.value) in
+    let t = c.turn_held-turned.result in
+    held_then (λ p q. Recovers p (g.Z.Silicon.seen c.args.z.now) q) cpus _ i was t.held h after got
+    (set_twice cpus i c.replace-held.new.dest t.held) c.turn_held-turned.ensures.recovered there now
+
+pub returns-clause-causes : goal.returns-clause-causes
+returns-clause-causes g c = λ ea eb h there.
+    let m = c.args.self.now in
+    let cpus = m.cpus.items in
+    let i = c.args.cpu.0 in
+    let was = c.replace-held.result in
+    let inside : i < length cpus = subst (λ (n : ℕ). i < n) m.fits.cpus c.requires.known in
+    let got : slice_get cpus i ≡ Some was =
+    slice_get_read cpus _ i c.index_mut.result.now refl inside c.index_mut.ensures.value
+    ∙ ap (λ (q : Held). Some q) (sym c.replace-held.ensures.value) in
+    let z = g.Z.Silicon.seen c.args.z.now in
+    held_before (λ p. why_met z p c.turn_held-turned.result.outcome ≡ next_cause z (core_of p))
+    cpus i was h got (c.turn_held-turned.ensures.causes ea eb) there
+
+pub returns-clause-finds : goal.returns-clause-finds
+returns-clause-finds g c = λ h there.
+    let m = c.args.self.now in
+    let cpus = m.cpus.items in
+    let i = c.args.cpu.0 in
+    let was = c.replace-held.result in
+    let inside : i < length cpus = subst (λ (n : ℕ). i < n) m.fits.cpus c.requires.known in
+    let got : slice_get cpus i ≡ Some was =
+    slice_get_read cpus _ i c.index_mut.result.now refl inside c.index_mut.ensures.value
+    ∙ ap (λ (q : Held). Some q) (sym c.replace-held.ensures.value) in
+    held_before (λ p. Finds p (g.Z.Silicon.seen c.args.z.now) i m.memory.bytes m.side
+    (g.P.ResultUnit.seen c.turn_held-turned.new.a) (g.Q.ResultUnit.seen c.turn_held-turned.new.b)
+    c.turn_held-turned.result.outcome) cpus i was h got c.turn_held-turned.ensures.finds there
+
+pub returns-clause-tape : goal.returns-clause-tape
+returns-clause-tape g c = λ h there.
+    let m = c.args.self.now in
+    let cpus = m.cpus.items in
+    let i = c.args.cpu.0 in
+    let was = c.replace-held.result in
+    let inside : i < length cpus = subst (λ (n : ℕ). i < n) m.fits.cpus c.requires.known in
+    let got : slice_get cpus i ≡ Some was =
+    slice_get_read cpus _ i c.index_mut.result.now refl inside c.index_mut.ensures.value
+    ∙ ap (λ (q : Held). Some q) (sym c.replace-held.ensures.value) in
+    held_before (λ p. HandsIn p (g.Z.Silicon.seen c.args.z.now) i m.memory.bytes m.side
+    (g.P.ResultUnit.seen c.turn_held-turned.new.a) (g.Q.ResultUnit.seen c.turn_held-turned.new.b)
+    c.turn_held-turned.result.outcome (g.Z.Silicon.tape c.args.z.now)
+    (g.Z.Silicon.tape c.turn_held-turned.new.z)) cpus i was h got c.turn_held-turned.ensures.tape
+    there
