@@ -182,12 +182,12 @@ console_begins files front a b o p x f t = record {
 
 -- ---- for every script: what the laws of runs ask for
 
-valid_kind : (c : Config) (k : RunKind) → Fits c.cpus k → ValidKind c k
+pub valid_kind : (c : Config) (k : RunKind) → Fits c.cpus k → ValidKind c k
 valid_kind c (Turns i) h = h
 valid_kind c (Key i) h = tt
 valid_kind c (Return k) h = tt
 
-valid_turns : (c : Config) (xs : List Choice) (ks : List RunKind)
+pub valid_turns : (c : Config) (xs : List Choice) (ks : List RunKind)
     → map (λ (x : Choice). x.kind) xs ≡ ks → All (λ k. Fits c.cpus k) ks → ValidTurns c xs
 valid_turns c [] ks e h = tt
 valid_turns c (x ∷ xs) [] e h = absurd (cc e)

@@ -98,7 +98,7 @@ one_made {E} files k sum old new a b o p (Ok n) h = record {
   most = omega arith;
   all = refl;
   told = h.told ∷ [];
-  tells = tells_one k h.told old new h.turns h.kept h.obeys h.follows;
+  tells = tells_one k h.told old new h.turns h.kept h.struck h.obeys h.follows;
   written = subst (λ w. Puts {E = E} files w a b o p (Ok n))
       (sym (append-nil (turn_pieces sum.commits h.told))) h.written;
   counted = h.counted;
@@ -108,7 +108,7 @@ one_made {E} files k sum old new a b o p (Err e) h = record {
   most = omega arith;
   all = tt;
   told = h.told ∷ [];
-  tells = tells_one k h.told old new h.turns h.kept h.obeys h.follows;
+  tells = tells_one k h.told old new h.turns h.kept h.struck h.obeys h.follows;
   written = subst (λ w. Puts {T = Counts} files w a b o p (Err e))
       (sym (append-nil (turn_pieces sum.commits h.told))) h.written;
   counted = tt;

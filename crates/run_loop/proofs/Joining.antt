@@ -8,7 +8,7 @@ use Rattle.run_model.specs.declared.schedules.RunKind.{RunKind}
 use Rattle.run_model.specs.Cores.{Cores, Choice, make, outlines, cores_after}
 use Rattle.run_model.specs.Counts.{commits_by, commits_after, count_turn, count_turns}
 use Rattle.run_model.specs.Fate.{Sound}
-use Rattle.run_model.specs.Runs.{Model, Told, tells, turned, run_tells, run_after}
+use Rattle.run_model.specs.Runs.{Model, Told, entries, tells, turned, run_tells, run_after}
 use Rattle.run_model.specs.Texts.{turn_pieces, turns_pieces}
 use Rattle.run_laws.proofs.Sound.{sound_before}
 
@@ -35,6 +35,12 @@ pub tells_append : (ls : List Strike) (c : Config) (x : Model) (ks js : List Run
 tells_append ls c x [] js = refl
 tells_append ls c x (k ∷ ks) js =
     ap (λ z. tells ls c x k ∷ z) (tells_append ls c (turned ls c x k) ks js)
+
+pub entries_append : (ts us : List Told) → entries (ts ++ us) ≡ entries ts ++ entries us
+entries_append [] us = refl
+entries_append (t ∷ ts) us =
+    ap (λ z. t.entries ++ z) (entries_append ts us)
+    ∙ sym (append_assoc t.entries (entries ts) (entries us))
 
 pub pieces_append : (n : ℕ) (ts us : List Told)
     → turns_pieces n (ts ++ us) ≡ turns_pieces n ts ++ turns_pieces (commits_after n ts) us

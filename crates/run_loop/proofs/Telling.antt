@@ -1,22 +1,26 @@
 -- What turns told: nothing yet, one turn, and turns after turns.
-use Rattle.std.proofs.Common.{◌≡◌, ℕ, zero, suc, ◌+◌, ◌-◌, ◌<◌, ◌≤◌, List, [], ◌∷◌, ◌++◌, length, take, refl, sym, ap, ◌∙◌, subst, arith, length-append, inl, inr}
+use Rattle.std.proofs.Common.{◌≡◌, ℕ, zero, suc, ◌+◌, ◌-◌, ◌<◌, ◌≤◌, List, [], ◌∷◌, ◌++◌, length, take, refl, sym, ap, ◌∙◌, subst, arith, length-append, append-nil, inl, inr}
 use Rattle.std.specs.Prelude.{map}
 use Rattle.std.proofs.lemmas.Bool.{cases_lt}
+use Rattle.std.specs.List.{All}
+use Rattle.std.proofs.lemmas.List.Elements.{All-append, All-nil}
 use Rattle.std.proofs.lemmas.List.{take_all, take-append-le, map-append}
 use Rattle.std.proofs.Math.Seq.{take-append-add}
+use Rattle.run_model.specs.declared.logs.Entry.{Entry}
 use Rattle.run_model.specs.declared.schedules.RunKind.{RunKind}
 use Rattle.run_model.specs.Cores.{Cores, Choice, outlines, cores_after}
 use Rattle.run_model.specs.Fate.{Sound}
-use Rattle.run_model.specs.Runs.{Model, Told, tells, turned, run_tells, run_after, outline_of}
-use Rattle.run_loop.specs.Engines.{EngineView, Kept, Obeys, Follows}
+use Rattle.run_model.specs.Runs.{Model, Told, entries, tells, turned, run_tells, run_after, outline_of}
+use Rattle.run_loop.specs.Engines.{EngineView, FailsAsStruck, IsStruck, Kept, Obeys, Follows, SoundTurn}
 use Rattle.run_loop.specs.Making.{ByMode, Tells, SoundAfter, tells_by, state_by}
-use Rattle.run_loop.proofs.Joining.{outlines_append, cores_append, after_append, tells_append, sound_run}
+use Rattle.run_loop.proofs.Joining.{outlines_append, cores_append, after_append, entries_append, tells_append, sound_run}
 
 pub tells_none : (old : EngineView) → Tells [] [] old old
 tells_none old = record {
   each = refl;
   turns = omega arith;
   kept = record { lines = refl; config = refl };
+  struck = All-nil (λ (e : Entry). IsStruck old.lines e.core.0 e.what);
   by_mode = λ s h. record { choices = []; kinds_are = refl; outlines_are = refl; stands = h };
   fronts = λ x h j le sound.
       let none : j ≡ 0 = omega (arith, le) in
@@ -37,14 +41,15 @@ one_front x k t old (suc j) le f sound =
     (ap (λ z. z ∷ []) (f here))
 
 pub tells_one : (k : RunKind) (t : Told) (old new : EngineView) → new.turns ≡ old.turns + 1
-    → Kept old new → ((s : Cores) → old.stands_by_mode s → Obeys s k old new t)
-    → ((x : Model) → old.stands x → Sound old.lines (turned old.lines old.config x k).fate
-    → Follows x k old new t)
+    → Kept old new → FailsAsStruck old.lines t.entries
+    → ((s : Cores) → old.stands_by_mode s → Obeys s k old new t)
+    → ((x : Model) → old.stands x → SoundTurn old x k → Follows x k old new t)
     → Tells (k ∷ []) (t ∷ []) old new
-tells_one k t old new turns kept obeys follows = record {
+tells_one k t old new turns kept struck obeys follows = record {
   each = refl;
   turns = turns;
   kept = kept;
+  struck = subst (λ es. FailsAsStruck old.lines es) (sym (append-nil t.entries)) struck;
   by_mode = λ s h.
       let o = obeys s h in
       record {
@@ -165,6 +170,15 @@ seam_stands x ks js ts us old mid new a b h sound =
     (same_state y js old mid a.kept ∙ sym (after_append old.lines old.config x ks js))
     (b.stands y (a.stands x h before) there)
 
+-- no failure in either without its strike
+struck_then : (ts us : List Told) (old mid : EngineView) → Kept old mid
+    → FailsAsStruck old.lines (entries ts) → FailsAsStruck mid.lines (entries us)
+    → FailsAsStruck old.lines (entries (ts ++ us))
+struck_then ts us old mid kept a b =
+    subst (λ es. FailsAsStruck old.lines es) (sym (entries_append ts us))
+    (All-append (λ (e : Entry). IsStruck old.lines e.core.0 e.what) (entries ts) (entries us) a
+    (subst (λ ls. FailsAsStruck ls (entries us)) kept.lines b))
+
 pub tells_then : (ks js : List RunKind) (ts us : List Told) (old mid new : EngineView)
     → Tells ks ts old mid → Tells js us mid new → Tells (ks ++ js) (ts ++ us) old new
 tells_then ks js ts us old mid new a b =
@@ -177,6 +191,7 @@ tells_then ks js ts us old mid new a b =
         lines = b.kept.lines ∙ a.kept.lines;
         config = b.kept.config ∙ a.kept.config;
       };
+      struck = struck_then ts us old mid a.kept a.struck b.struck;
       by_mode = λ s h. by_mode_then s ks js ts us old mid new a.kept (a.by_mode s h) b.by_mode;
       fronts = λ x h j le sound. elim (cases_lt (length ks) j) [
         | inl lt ↦ long_front x ks js ts us old mid new j a b h lt le sound

@@ -1,10 +1,16 @@
 -- What is seen of an engine that makes turns, and what holds of a turn that it makes.
 -- Source: choice of this project.
-use Rattle.std.specs.Prelude.{◌≡◌, ℕ, List}
+use Rattle.std.specs.Prelude.{⊤, ◌≡◌, ℕ, List, Some}
+use Rattle.std.specs.List.{All}
 use Rattle.run_model.specs.declared.faults.Strike.{Strike}
 use Rattle.run_model.specs.declared.logs.Config.{Config}
+use Rattle.run_model.specs.declared.logs.Entry.{Entry}
+use Rattle.run_model.specs.declared.logs.What.{What}
+use Rattle.run_model.specs.declared.logs.What.TheVariants.{Fail}
 use Rattle.run_model.specs.declared.schedules.RunKind.{RunKind}
 use Rattle.run_model.specs.Cores.{Cores, Met, make}
+use Rattle.run_model.specs.Fate.{Sound}
+use Rattle.run_model.specs.Strikes.{cause}
 use Rattle.run_model.specs.Runs.{Model, Told, tells, turned, outline_of}
 use Rattle.run_loop.specs.declared.engine.Turn.{Turn}
 
@@ -34,6 +40,10 @@ told_of t = record {
   console = t.written.console.items;
 }
 
+-- the definition's turn of this kind is sound
+abbrev pub SoundTurn : EngineView → Model → RunKind → Type 0
+SoundTurn v x kind = Sound v.lines (turned v.lines v.config x kind).fate
+
 -- whatever is struck: its entries and its event are what these cores make of what it met
 pub record Obeys (s : Cores) (kind : RunKind) (old new : EngineView) (t : Told) : Type 0 where
   pub met : Met
@@ -44,3 +54,12 @@ pub record Obeys (s : Cores) (kind : RunKind) (old new : EngineView) (t : Told) 
 pub record Follows (x : Model) (kind : RunKind) (old new : EngineView) (t : Told) : Type 0 where
   pub told : t ≡ tells old.lines old.config x kind
   pub stands : new.stands (turned old.lines old.config x kind)
+
+-- an attempt of core c that failed: the script has the strike, and it fails by that cause
+abbrev pub IsStruck : List Strike → ℕ → What → Type 0
+IsStruck ls c (Fail why n) = cause ls c n ≡ Some why
+IsStruck ls c w = ⊤
+
+-- no failure without its strike
+abbrev pub FailsAsStruck : List Strike → List Entry → Type 0
+FailsAsStruck ls es = All (λ (e : Entry). IsStruck ls e.core.0 e.what) es

@@ -8,9 +8,9 @@ use Rattle.run_model.specs.declared.schedules.RunKind.{RunKind}
 use Rattle.run_model.specs.Cores.{Cores, Choice, outlines, cores_after}
 use Rattle.run_model.specs.Counts.{count_turn, count_turns, none_made}
 use Rattle.run_model.specs.Fate.{Sound}
-use Rattle.run_model.specs.Runs.{Model, Told, turned, run_tells, run_after, outline_of}
+use Rattle.run_model.specs.Runs.{Model, Told, entries, run_tells, run_after, outline_of}
 use Rattle.run_model.specs.Texts.{turn_pieces, turns_pieces}
-use Rattle.run_loop.specs.Engines.{EngineView, Kept, Obeys, Follows}
+use Rattle.run_loop.specs.Engines.{EngineView, FailsAsStruck, Kept, Obeys, Follows, SoundTurn}
 
 -- what was told is what these cores make of what the turns met
 pub record ByMode (s : Cores) (kinds : List RunKind) (told : List Told) (old new : EngineView) : Type 0 where
@@ -34,6 +34,7 @@ pub record Tells (kinds : List RunKind) (told : List Told) (old new : EngineView
   pub each : length told ≡ length kinds
   pub turns : new.turns ≡ old.turns + length kinds
   pub kept : Kept old new
+  pub struck : FailsAsStruck old.lines (entries told)
   pub by_mode : (s : Cores) → old.stands_by_mode s → ByMode s kinds told old new
   pub fronts : (x : Model) → old.stands x → (j : ℕ) → j ≤ length kinds
       → SoundAfter old x (take j kinds) → take j told ≡ tells_by old x (take j kinds)
@@ -46,9 +47,9 @@ pub record MakesTurn {E : Type 0} (files : OutputFiles) (kind : RunKind) (before
   pub told : Told
   pub turns : new.turns ≡ old.turns + 1
   pub kept : Kept old new
+  pub struck : FailsAsStruck old.lines told.entries
   pub obeys : (s : Cores) → old.stands_by_mode s → Obeys s kind old new told
-  pub follows : (x : Model) → old.stands x
-      → Sound old.lines (turned old.lines old.config x kind).fate → Follows x kind old new told
+  pub follows : (x : Model) → old.stands x → SoundTurn old x kind → Follows x kind old new told
   pub written : Puts files (turn_pieces before.commits told) a b o p result
   pub counted : IfOk result (λ n. n ≡ count_turn before told)
 

@@ -12,8 +12,8 @@ mod writing;
 pub use counting::none_made;
 pub use engine::{Engine, Turn};
 pub use laws::{
-    counts_of_sound_turns, front_of_turns, lawful_and_few_retries, pieces_of_sound_turns,
-    texts_begin, told_by_turns,
+    counts_of_sound_turns, failures_have_strikes, front_of_turns, lawful_and_few_retries,
+    pieces_of_sound_turns, texts_begin, told_by_turns,
 };
 pub use running::{make_run, make_runs};
 pub use turning::make_turn;

@@ -1,10 +1,11 @@
 // An engine that plays five turns, over files and a console in memory.
-ghost use Rattle.std.specs.Prelude.{◌≡◌, ◌≤◌, ◌^◌, [], IfOk, length};
+ghost use Rattle.std.specs.Prelude.{◌≡◌, ◌≤◌, ◌^◌, [], IfOk, IfSome, length};
 ghost use Rattle.esa_model.specs.Changes.{stretches};
 ghost use Rattle.g5_outside.specs.MemoryShelves.{shelf_view};
 ghost use Rattle.g5_writing.specs.Outputs.{HasFiles};
 ghost use Rattle.run_model.specs.Counts.{none_made};
 ghost use Rattle.run_loop.specs.Bounds.{Below};
+ghost use Rattle.run_loop.specs.Engines.{FailsAsStruck, IsStruck};
 
 use crate::{Engine, Turn, make_run, make_runs, make_turn, none_made};
 use arrayvec::ArrayVec;
@@ -13,10 +14,11 @@ use esa_model::machine::{CpuNo, Event, Psw};
 use g5_outside::{Failed, FileNo, MemoryShelf, MemorySink, Shelf, Sink};
 use g5_writing::{OutputFiles, start_files};
 use result_packet::Written;
-use run_model::faults::{Cause, CoreNo};
+use run_model::faults::CoreNo;
 use run_model::logs::{Entry, What};
 use run_model::outputs::Counts;
 use run_model::schedules::{Run, RunKind};
+use silicon::{ScriptSilicon, Silicon};
 use std::alloc::Global;
 use std::test::Fail;
 
@@ -25,7 +27,12 @@ struct Player {
     made: u64,
 }
 
-fn entries_of(entry: Option<Entry>) -> ArrayVec<Entry, 44> {
+// One entry, or none.
+#[tactic(auto, using(crate::proofs::Fitting::one_struck, crate::proofs::Fitting::none_struck))]
+fn entries_of(entry: Option<Entry>) -> ArrayVec<Entry, 44>
+    requires { IfSome entry (λ e. IsStruck [] e.core.0 e.what) }
+    ensures { FailsAsStruck [] result.items }
+{
     let mut entries = ArrayVec::new();
     match entry {
         None => entries,
@@ -36,7 +43,10 @@ fn entries_of(entry: Option<Entry>) -> ArrayVec<Entry, 44> {
     }
 }
 
-fn entry(turn: u64, cpu: u8, core: u8, what: What) -> Option<Entry> {
+fn entry(turn: u64, cpu: u8, core: u8, what: What) -> Option<Entry>
+    requires { IsStruck [] core what }
+    ensures { IfSome result (λ e. IsStruck [] e.core.0 e.what) }
+{
     Some(Entry {
         turn,
         cpu: CpuNo(cpu),
@@ -64,7 +74,9 @@ fn turn_of(
     changed: Option<Changed>,
     console: &[u8],
 ) -> Turn
-    ensures { length (stretches result.written.changed.items) ≤ 1 }
+    requires { IfSome entry (λ e. IsStruck [] e.core.0 e.what) }
+    ensures changed { length (stretches result.written.changed.items) ≤ 1 }
+    ensures struck { FailsAsStruck [] result.entries.items }
 {
     let mut bytes = ArrayVec::new();
     let _ = bytes.try_extend_from_slice(console);
@@ -82,10 +94,11 @@ fn turn_of(
     }
 }
 
-// The turn of this number: a commit after a correction, an attempt that fails, an interrupt key, the
+// The turn of this number: a commit after a correction, a retry, an interrupt key, the
 // return of a core, and then commits that change nothing.
 fn played(number: u64) -> Turn
-    ensures { length (stretches result.written.changed.items) ≤ 1 }
+    ensures changed { length (stretches result.written.changed.items) ≤ 1 }
+    ensures struck { FailsAsStruck [] result.entries.items }
 {
     match number {
         1 => turn_of(
@@ -97,12 +110,7 @@ fn played(number: u64) -> Turn
             }),
             &[0xC8, 0xC9],
         ),
-        2 => turn_of(
-            entry(2, 0, 0, What::Fail(Cause::Mismatch, 1)),
-            None,
-            None,
-            &[],
-        ),
+        2 => turn_of(entry(2, 0, 0, What::Retry(1)), None, None, &[]),
         3 => turn_of(None, Some(Event::Key(CpuNo(1))), None, &[]),
         4 => turn_of(entry(4, 255, 9, What::Returned), None, None, &[]),
         _ => turn_of(None, Some(Event::Commit(CpuNo(1))), None, &[]),
@@ -110,7 +118,7 @@ fn played(number: u64) -> Turn
 }
 
 impl Engine for Player {
-    ghost seen = { λ p. record {
+    ghost seen = { λ p z. record {
       lines = [];
       config = record { cpus = 2; spares = 2; pages = 32; threshold = 3 };
       turns = p.made;
@@ -119,7 +127,7 @@ impl Engine for Player {
       stands = λ x. ⊥;
     } };
 
-    fn turn(&mut self, _kind: RunKind) -> Turn {
+    fn turn<Z: Silicon>(&mut self, _silicon: &mut Z, _kind: RunKind) -> Turn {
         self.made += 1;
         played(self.made)
     }
@@ -144,7 +152,7 @@ const RUNS: [Run; 4] = [
     },
 ];
 
-const LOG: &[u8] = b"1 0 0 CORRECTED 5 10\n2 0 0 FAIL MISMATCH 1\n4 - 9 RETURNED\n";
+const LOG: &[u8] = b"1 0 0 CORRECTED 5 10\n2 0 0 RETRY 1\n4 - 9 RETURNED\n";
 
 const TRACE: &[u8] = b"1 C0 00080000 80010002 012000=40\n2 C1 00080000 80010002\n";
 
@@ -175,9 +183,18 @@ fn play(alloc: Global, shelf_fails: u64, sink_fails: u64) -> Result<Left, Fail> 
     let mut shelf = memory_shelf(alloc, shelf_fails)?;
     let mut out = memory_sink(alloc, sink_fails)?;
     let mut player = Player { made: 0 };
+    let mut silicon = ScriptSilicon::new();
     let ended = match start_files(&mut shelf, "L", "T") {
         Err(failed) => Err(failed),
-        Ok(files) => make_runs(&mut player, &mut shelf, &mut out, files, &RUNS, none_made()),
+        Ok(files) => make_runs(
+            &mut player,
+            &mut silicon,
+            &mut shelf,
+            &mut out,
+            files,
+            &RUNS,
+            none_made(),
+        ),
     };
     Ok(Left { ended, shelf, out })
 }
@@ -199,15 +216,15 @@ fn turns_of_each_kind(rt: HostRuntime) -> Result<(), Fail> {
     let counts = Counts {
         turns: 5,
         commits: 2,
-        fails: 1,
-        retries: 0,
+        fails: 0,
+        retries: 1,
         corrected: 1,
         spared: 0,
         stopped: 0,
         returned: 1,
     };
     assert_eq!(rt; left.ended, Ok(counts));
-    assert!(rt; has(&left, 58, 56, 2));
+    assert!(rt; has(&left, 50, 56, 2));
     Ok(())
 }
 
@@ -220,8 +237,8 @@ fn turns_up_to_a_fault(rt: HostRuntime) -> Result<(), Fail> {
         (4, 0, 21, 0, 0),
         (0, 1, 21, 33, 0),
         (5, 0, 21, 33, 2),
-        (6, 0, 43, 33, 2),
-        (7, 0, 58, 33, 2),
+        (6, 0, 35, 33, 2),
+        (7, 0, 50, 33, 2),
     ];
     for (shelf_fails, sink_fails, log, trace, console) in cases {
         let left = play(rt.alloc(), shelf_fails, sink_fails)?;
@@ -259,8 +276,9 @@ fn play_on<F: Shelf, O: Sink>(
     requires commits { start.commits ≤ 999990 }
 {
     let mut player = Player { made: 4 };
+    let mut silicon = ScriptSilicon::new();
     let kind = RunKind::Turns(CpuNo(1));
-    match make_turn(&mut player, shelf, out, files, kind, start) {
+    match make_turn(&mut player, &mut silicon, shelf, out, files, kind, start) {
         Err(failed) => return Err(failed),
         Ok(_) => {}
     }
@@ -268,7 +286,7 @@ fn play_on<F: Shelf, O: Sink>(
         what: kind,
         count: 2,
     };
-    make_run(&mut player, shelf, out, files, run, start)
+    make_run(&mut player, &mut silicon, shelf, out, files, run, start)
 }
 
 #[test]

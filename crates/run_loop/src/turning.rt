@@ -12,27 +12,32 @@ use g5_outside::{Failed, Shelf, Sink};
 use g5_writing::OutputFiles;
 use run_model::outputs::Counts;
 use run_model::schedules::RunKind;
+use silicon::Silicon;
 
 /// Makes one turn, writes what it tells, and counts it. `before` are the counts of the turns before it.
-pub fn make_turn<E: Engine, F: Shelf, O: Sink>(
+pub fn make_turn<E: Engine, Z: Silicon, F: Shelf, O: Sink>(
     engine: &mut E,
+    silicon: &mut Z,
     shelf: &mut F,
     out: &mut O,
     files: OutputFiles,
     kind: RunKind,
     before: Counts,
 ) -> Result<Counts, Failed>
-    requires ready { (E.seen engine.old).ready }
-    requires fits { Fits (E.seen engine.old).config.cpus kind }
-    requires room { (E.seen engine.old).turns < 2 ^ 47 }
+    requires ready { (E.seen engine.old (Z.seen silicon.old)).ready }
+    requires fits { Fits (E.seen engine.old (Z.seen silicon.old)).config.cpus kind }
+    requires room { (E.seen engine.old (Z.seen silicon.old)).turns < 2 ^ 47 }
     requires files { HasFiles (F.seen shelf.old) files }
     requires below { Below (2 ^ 62) before }
     requires commits { before.commits < 1000000 }
-    ensures ready { (E.seen engine.new).ready }
-    ensures small { IfOk result (λ after. (most : ℕ) → Below most before → Below (most + 45) after) }
-    ensures makes { MakesTurn files kind before (E.seen engine.old) (E.seen engine.new) (F.seen shelf.old) (F.seen shelf.new) (O.seen out.old) (O.seen out.new) result }
+    ensures ready { (E.seen engine.new (Z.seen silicon.new)).ready }
+    ensures small { IfOk result
+        (λ after. (most : ℕ) → Below most before → Below (most + 45) after) }
+    ensures makes { MakesTurn files kind before
+        (E.seen engine.old (Z.seen silicon.old)) (E.seen engine.new (Z.seen silicon.new))
+        (F.seen shelf.old) (F.seen shelf.new) (O.seen out.old) (O.seen out.new) result }
 {
-    let turn = engine.turn(kind);
+    let turn = engine.turn(silicon, kind);
     match write_turn(shelf, out, files, before.commits, &turn) {
         Err(failed) => Err(failed),
         Ok(()) => Ok(count_turn(before, &turn)),

@@ -23,7 +23,8 @@ fn write_entry<F: Shelf, O: Sink>(
     entry: &Entry,
 ) -> Result<(), Failed>
     requires { HasFiles (F.seen shelf.old) files }
-    ensures { Puts files (piece Place.Log (entry_line entry.now) ∷ []) (F.seen shelf.old) (F.seen shelf.new) (O.seen out.old) (O.seen out.new) result }
+    ensures { Puts files (piece Place.Log (entry_line entry.now) ∷ [])
+        (F.seen shelf.old) (F.seen shelf.new) (O.seen out.old) (O.seen out.new) result }
 {
     let text = write(entry);
     put(shelf, out, files, Place::Log, &text)
@@ -36,7 +37,8 @@ fn write_entries<F: Shelf, O: Sink>(
     entries: &[Entry],
 ) -> Result<(), Failed>
     requires { HasFiles (F.seen shelf.old) files }
-    ensures { Puts files (entry_pieces entries.now) (F.seen shelf.old) (F.seen shelf.new) (O.seen out.old) (O.seen out.new) result }
+    ensures { Puts files (entry_pieces entries.now)
+        (F.seen shelf.old) (F.seen shelf.new) (O.seen out.old) (O.seen out.new) result }
 {
     'entries: for entry in entries {
         match write_entry(shelf, out, files, entry) {
@@ -59,7 +61,10 @@ fn write_commit<F: Shelf, O: Sink>(
     requires files { HasFiles (F.seen shelf.old) files }
     requires number { number ≤ 1000000 }
     requires stretches { length (stretches turn.now.written.changed.items) ≤ 135 }
-    ensures { Puts files (piece Place.Trace (trace_line number cpu.0 turn.now.psw turn.now.written.changed.items) ∷ piece Place.Out turn.now.written.console.items ∷ []) (F.seen shelf.old) (F.seen shelf.new) (O.seen out.old) (O.seen out.new) result }
+    ensures { Puts files
+        (piece Place.Trace (trace_line number cpu.0 turn.now.psw turn.now.written.changed.items)
+        ∷ piece Place.Out turn.now.written.console.items ∷ [])
+        (F.seen shelf.old) (F.seen shelf.new) (O.seen out.old) (O.seen out.new) result }
 {
     let text = line(number, cpu, turn.psw, &turn.written.changed);
     put(shelf, out, files, Place::Trace, &text)?;
@@ -77,7 +82,8 @@ fn write_event<F: Shelf, O: Sink>(
     requires files { HasFiles (F.seen shelf.old) files }
     requires commits { commits < 1000000 }
     requires stretches { length (stretches turn.now.written.changed.items) ≤ 135 }
-    ensures { Puts files (commit_pieces commits (told_of turn.now) turn.now.event) (F.seen shelf.old) (F.seen shelf.new) (O.seen out.old) (O.seen out.new) result }
+    ensures { Puts files (commit_pieces commits (told_of turn.now) turn.now.event)
+        (F.seen shelf.old) (F.seen shelf.new) (O.seen out.old) (O.seen out.new) result }
 {
     match turn.event {
         Some(Event::Commit(cpu)) => write_commit(shelf, out, files, commits + 1, cpu, turn),
@@ -99,7 +105,8 @@ pub fn write_turn<F: Shelf, O: Sink>(
     requires files { HasFiles (F.seen shelf.old) files }
     requires commits { commits < 1000000 }
     requires stretches { length (stretches turn.now.written.changed.items) ≤ 135 }
-    ensures { Puts files (turn_pieces commits (told_of turn.now)) (F.seen shelf.old) (F.seen shelf.new) (O.seen out.old) (O.seen out.new) result }
+    ensures { Puts files (turn_pieces commits (told_of turn.now))
+        (F.seen shelf.old) (F.seen shelf.new) (O.seen out.old) (O.seen out.new) result }
 {
     match write_entries(shelf, out, files, turn.entries.as_slice()) {
         Err(failed) => Err(failed),

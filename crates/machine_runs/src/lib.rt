@@ -1,0 +1,10 @@
+//! Whole runs of the machine that runs on through faults: log, trace and console from head to tail.
+#![tactic(auto)]
+
+mod cpu_turns;
+mod other_turns;
+mod twin_machine;
+mod whole;
+
+pub use twin_machine::TwinMachine;
+pub use whole::make_whole;
