@@ -1,0 +1,3 @@
+pub mod InputReads
+pub mod Loads
+pub mod Jobs
