@@ -3,6 +3,7 @@
 
 use g5_outside::{HostShelf, HostSink, Sink};
 use g5_run::{Status, g5_top};
+use silicon::ScriptSilicon;
 use std::io::ErrorKind;
 use std::process::ExitCode;
 use std::{env, io};
@@ -30,6 +31,7 @@ fn main(rt: HostRuntime) -> ExitCode {
         Err(_) => Vec::new(alloc),
     };
     let mut shelf = HostShelf::new(rt);
-    let status = g5_top(alloc, &words, &mut shelf, &mut out, &mut err);
+    let mut silicon = ScriptSilicon::new();
+    let status = g5_top(alloc, &words, &mut shelf, &mut out, &mut err, &mut silicon);
     ExitCode::from(status.number())
 }

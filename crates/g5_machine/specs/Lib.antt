@@ -1,2 +1,5 @@
 pub mod Counts
-pub mod Turns
+pub mod Fits
+pub mod Standing
+pub mod Starting
+pub mod Turning

@@ -1,7 +1,8 @@
 // What a machine counts.
 ghost use Rattle.std.specs.Prelude.{◌≡◌, ◌+◌, ◌<◌, ◌≤◌, ◌^◌};
-ghost use Rattle.g5_machine.specs.Counts.{IsCounted};
+ghost use Rattle.g5_machine.specs.Counts.{IsCounted, commit_more, counted_by, turn_more};
 
+use core_turns::Outcome;
 use std::marker::Model;
 
 /// Turns made, commits among them, and bytes of the console read and written.
@@ -18,9 +19,15 @@ impl Model for Counts {
 
     ghost Value = { Counted };
 
-    ghost view = { λ c. record { turns = c.turns; commits = c.commits; read = c.read; written = c.written } };
+    ghost view = { λ c.
+        record { turns = c.turns; commits = c.commits; read = c.read; written = c.written } };
 
-    ghost invariant = { λ c. IsCounted (record { turns = c.turns; commits = c.commits; read = c.read; written = c.written }) };
+    ghost invariant = { λ c. IsCounted (record {
+      turns = c.turns;
+      commits = c.commits;
+      read = c.read;
+      written = c.written;
+    }) };
 }
 
 impl Counts {
@@ -40,7 +47,7 @@ impl Counts {
     /// A turn without a commit.
     pub fn add_turn(&mut self)
         requires { self.old.turns < 2 ^ 48 }
-        ensures counts { self.new ≡ record self.old { turns = self.old.turns + 1 } }
+        ensures counts { self.new ≡ turn_more self.old }
         ensures counted { IsCounted self.new }
     {
         self.turns += 1;
@@ -51,7 +58,7 @@ impl Counts {
         requires room { self.old.turns < 2 ^ 48 }
         requires read { read ≤ 256 }
         requires written { written ≤ 256 }
-        ensures counts { self.new ≡ record { turns = self.old.turns + 1; commits = self.old.commits + 1; read = self.old.read + read; written = self.old.written + written } }
+        ensures counts { self.new ≡ commit_more read written self.old }
         ensures counted { IsCounted self.new }
     {
         *self = Counts {
@@ -60,6 +67,24 @@ impl Counts {
             read: self.read + u64::from(read),
             written: self.written + written as u64,
         };
+    }
+
+    /// A turn that came to this. A commit read and wrote so many bytes of the console.
+    pub fn count(&mut self, came: Outcome, read: u32, written: usize)
+        requires room { self.old.turns < 2 ^ 48 }
+        requires read { read ≤ 256 }
+        requires written { written ≤ 256 }
+        ensures counts { self.new ≡ counted_by came read written self.old }
+        ensures counted { IsCounted self.new }
+    {
+        match came {
+            Outcome::Committed => self.add_commit(read, written),
+            Outcome::Idle
+            | Outcome::Failed(_)
+            | Outcome::Retried(_)
+            | Outcome::Spared(_)
+            | Outcome::Stopped => self.add_turn(),
+        }
     }
 
     /// The turns made.

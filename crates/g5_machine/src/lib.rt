@@ -1,19 +1,18 @@
-//! The machine: its start and its turns.
+//! The machine that runs on through faults of its cores: its start and its turns.
 #![tactic(auto)]
 
-mod carrying;
-mod clock;
 mod counts;
-mod interrupt_key;
+mod keys;
 mod machine;
+mod returning;
 mod starting;
 mod state;
 mod turning;
 mod turns;
 
-pub use deck_model::decks::Loaded;
+pub use core_turns::Outcome;
 pub use machine::Machine;
-pub use turns::{Outcome, Turn};
+pub use turns::Turn;
 
 #[cfg(test)]
 mod tests;

@@ -1,14 +1,23 @@
-use crate::counts::Counts;
-use abs_storage::AbsStorage;
-use esa_model::machine::Registers;
-use result_packet::Side;
+ghost use Rattle.std.specs.Prelude.{◌≡◌, ◌≤◌, true, length};
+ghost use Rattle.core_turns.specs.Places.{EachInOnePlace};
+ghost use Rattle.g5_machine.specs.Fits.{IsFitting, all_there};
 
-/// A machine of 1 to 8 CPUs: the registers of each, the storage, the keys, states, requests and console
-/// input, and what it counts.
+use crate::counts::Counts;
+use core_turns::{Held, Memory, SparePool};
+use result_packet::Side;
+use run_model::logs::Config;
+
+/// A machine: what is held for each CPU, the cores that no CPU has, the storage, the keys, states,
+/// requests and console input, and what it counts.
 #[derive(Drop)]
 pub struct Machine {
-    pub(crate) registers: Vec<Registers>,
-    pub(crate) storage: AbsStorage,
+    pub(crate) config: Config,
+    pub(crate) cpus: Vec<Held>,
+    pub(crate) pool: SparePool,
+    pub(crate) memory: Memory,
     pub(crate) side: Side,
     pub(crate) counts: Counts,
+    ghost fits: { IsFitting config (length cpus.items) },
+    ghost there: { all_there cpus.items ≡ true },
+    ghost placed: { EachInOnePlace config cpus.items pool },
 }

@@ -1,30 +1,44 @@
-// Small programs, their turns worked by hand from the Principles of Operation.
-mod moves;
+// Small programs on machines whose silicon lands the strikes of short scripts. What they tell was
+// worked by hand from the Principles of Operation and the rules of retry and sparing.
+mod several;
 
-use crate::{Loaded, Machine, Outcome, Turn};
+ghost use Rattle.std.specs.Prelude.{◌≡◌, ◌<◌, ◌*◌, ◌^◌, IsTrue, length};
+ghost use Rattle.g5_machine.specs.Fits.{IsFitting};
+
+use crate::{Machine, Turn};
 use abs_storage::AbsStorage;
-use esa_model::machine::{CpuNo, CpuState, Psw};
-use run_model::faults::CoreNo;
+use deck_model::decks::Loaded;
+use esa_model::machine::{CpuNo, Psw};
+use fault_script::parse;
+use run_model::faults::{Cause, CoreNo};
+use run_model::logs::{Config, Entry, What};
+use silicon::{ScriptSilicon, Silicon};
 use std::alloc::Global;
 use std::test::Fail;
+use twin_units::PlainUnit;
 
 const FIRST: CpuNo = CpuNo(0);
 
-const SECOND: CpuNo = CpuNo(1);
-
-/// Where programs begin, and where the new PSWs of interruptions lead.
+/// Where programs begin.
 const ENTRY: u32 = 0x1_0000;
 
-const AFTER: Psw = Psw {
-    w0: 0x0008_0000,
-    w1: 0x8001_0080,
-};
+/// LA 1,X'800'; AR 1,1 five times, which gives X'10000'; LA 1,X'1C'(1); LA 2,2;
+/// DIAGNOSE 1,2,X'100', which writes the two bytes at the end to the console; NOPR.
+const GREETING: [u8; 30] = [
+    0x41, 0x10, 0x08, 0x00, 0x1A, 0x11, 0x1A, 0x11, 0x1A, 0x11, 0x1A, 0x11, 0x1A, 0x11, 0x41, 0x10,
+    0x10, 0x1C, 0x41, 0x20, 0x00, 0x02, 0x83, 0x12, 0x01, 0x00, 0x07, 0x00, 0xC8, 0xC9,
+];
 
-const ZERO: Psw = Psw { w0: 0, w1: 0 };
+/// The first six of them; BR 1.
+const LOOP: [u8; 16] = [
+    0x41, 0x10, 0x08, 0x00, 0x1A, 0x11, 0x1A, 0x11, 0x1A, 0x11, 0x1A, 0x11, 0x1A, 0x11, 0x07, 0xF1,
+];
 
-/// 128 KiB of zeros.
-fn blank(alloc: Global) -> Result<AbsStorage, Fail> {
-    Ok(AbsStorage::new(alloc, 0x2_0000)?)
+/// A machine and its silicon.
+#[derive(Drop)]
+struct Plant {
+    machine: Machine,
+    z: ScriptSilicon,
 }
 
 fn put(storage: &mut AbsStorage, from: u32, bytes: &[u8]) {
@@ -35,291 +49,282 @@ fn put(storage: &mut AbsStorage, from: u32, bytes: &[u8]) {
     }
 }
 
-fn put_psw(storage: &mut AbsStorage, at: u32, psw: Psw) {
-    put(storage, at, &psw.w0.to_be_bytes());
-    put(storage, at.wrapping_add(4), &psw.w1.to_be_bytes());
+/// A storage of 128 KiB with a program at the entry.
+fn loaded(alloc: Global, program: &[u8]) -> Result<AbsStorage, Fail> {
+    let mut storage = AbsStorage::new(alloc, 0x2_0000)?;
+    put(&mut storage, ENTRY, program);
+    Ok(storage)
 }
 
-/// A machine at the entry, without console input.
-fn started(alloc: Global, storage: AbsStorage) -> Result<Machine, Fail> {
+fn machine_of(cpus: u8, spares: u8, threshold: u8) -> Config {
+    Config {
+        cpus,
+        spares,
+        pages: 32,
+        threshold,
+    }
+}
+
+fn is_within_limits(c: Config) -> bool
+    ensures { IsTrue result → IsFitting c c.cpus }
+{
+    1 <= c.cpus && c.cpus <= 8 && c.spares <= 8 && c.threshold <= 15
+}
+
+fn has_pages(c: Config, storage: &AbsStorage) -> bool
+    ensures { IsTrue result → length storage.now ≡ 4096 * c.pages }
+{
+    storage.size() == 4096 * u32::from(c.pages)
+}
+
+/// A machine at the entry, without console input, on silicon with a script.
+fn started(alloc: Global, config: Config, storage: AbsStorage, script: &[u8]) -> Result<Plant, Fail>
+    requires { length script.now < 2 ^ 32 }
+{
+    let Ok(script) = parse(alloc, script) else {
+        return Err("a script".into());
+    };
+    if !is_within_limits(config) || !has_pages(config, &storage) {
+        return Err("a configuration".into());
+    }
+    let mut z = ScriptSilicon::new();
+    z.arm(script);
     let entry = Loaded { address: ENTRY };
-    Ok(Machine::new(alloc, storage, entry, 1, Vec::new(alloc))?)
+    let machine = Machine::new(alloc, config, entry, storage, Vec::new(alloc), &mut z)?;
+    Ok(Plant { machine, z })
 }
 
-fn turn(machine: &mut Machine, cpu: CpuNo) -> Result<Turn, Fail> {
-    if machine.registers(cpu).is_none() || machine.turns() > 1000 {
-        return Err("no such turn".into());
+/// One turn of a CPU. `None` for a CPU that is not there, or after many turns.
+fn turn(p: &mut Plant, cpu: CpuNo) -> Option<Turn> {
+    if cpu.0 >= p.machine.cpus() || p.machine.turns() > 1000 {
+        return None;
     }
-    Ok(machine.turn(cpu))
+    let core = p.machine.core(cpu);
+    if core.0 > 15 || p.z.begun(core) > 1000 {
+        return None;
+    }
+    let mut a = PlainUnit::new();
+    let mut b = PlainUnit::new();
+    Some(p.machine.turn(cpu, &mut p.z, &mut a, &mut b))
 }
 
-/// Makes commits of CPU 0.
-fn commits(machine: &mut Machine, count: u64) -> Result<(), Fail> {
-    for _k in 0..count {
-        let made = turn(machine, FIRST)?;
-        if made.outcome != Outcome::Committed {
-            return Err("no commit".into());
-        }
+fn return_core(p: &mut Plant, core: CoreNo) -> Option<Entry> {
+    if core.0 > 15 || p.machine.turns() > 1000 {
+        return None;
     }
-    Ok(())
+    p.machine.return_core(core)
 }
 
-/// Whether a turn changed these bytes and no others.
-fn changes(turn: &Turn, want: &[(u32, u8)]) -> bool {
-    let changed = turn.written.changed.as_slice();
-    if changed.len() != want.len() {
-        return false;
+fn press_key(p: &mut Plant, cpu: CpuNo) {
+    if cpu.0 < p.machine.cpus() && p.machine.turns() < 1000 {
+        p.machine.key(cpu);
     }
-    for k in 0..want.len() {
-        if changed[k].at != want[k].0 || changed[k].byte != want[k].1 {
-            return false;
-        }
-    }
-    true
 }
 
-fn general(machine: &Machine, n: usize) -> Option<u32> {
-    match machine.registers(FIRST) {
-        Some(r) => r.general.get(n).copied(),
+fn psw_of(p: &Plant, cpu: CpuNo) -> Option<Psw> {
+    if cpu.0 >= p.machine.cpus() {
+        return None;
+    }
+    match p.machine.registers(cpu) {
+        Some(r) => Some(r.psw),
         None => None,
     }
 }
 
-/// L 1,X'100'; LA 2,1; LPSW X'108', after which AR 1,2 is next.
-fn adding(alloc: Global, program_mask: u32) -> Result<Machine, Fail> {
-    let mut storage = blank(alloc)?;
-    put(
-        &mut storage,
-        ENTRY,
-        &[
-            0x58, 0x10, 0x01, 0x00, 0x41, 0x20, 0x00, 0x01, 0x82, 0x00, 0x01, 0x08,
-        ],
-    );
-    put(&mut storage, 0x1_0020, &[0x1A, 0x12]);
-    put(&mut storage, 0x100, &[0x7F, 0xFF, 0xFF, 0xFF]);
-    let psw = Psw {
-        w0: 0x0008_0000 | program_mask,
-        w1: 0x8001_0020,
-    };
-    put_psw(&mut storage, 0x108, psw);
-    put_psw(&mut storage, 104, AFTER);
-    let mut machine = started(alloc, storage)?;
-    commits(&mut machine, 3)?;
-    Ok(machine)
-}
-
-#[test]
-fn overflow(rt: HostRuntime) -> Result<(), Fail> {
-    let mut machine = adding(rt.alloc(), 0)?;
-    assert_eq!(rt; general(&machine, 1), Some(0x7FFF_FFFF));
-    let added = turn(&mut machine, FIRST)?;
-    assert_eq!(rt; added.outcome, Outcome::Committed);
-    let psw = Psw {
-        w0: 0x0008_3000,
-        w1: 0x8001_0022,
-    };
-    assert_eq!(rt; added.psw, psw);
-    assert!(rt; changes(&added, &[]));
-    assert_eq!(rt; general(&machine, 1), Some(0x8000_0000));
-
-    let mut masked = adding(rt.alloc(), 0x800)?;
-    let interrupted = turn(&mut masked, FIRST)?;
-    assert_eq!(rt; interrupted.psw, AFTER);
-    let want = [
-        (0x29, 0x08),
-        (0x2A, 0x38),
-        (0x2C, 0x80),
-        (0x2D, 0x01),
-        (0x2F, 0x22),
-        (0x8D, 0x02),
-        (0x8F, 0x08),
-    ];
-    assert!(rt; changes(&interrupted, &want));
-    assert_eq!(rt; general(&masked, 1), Some(0x8000_0000));
-    Ok(())
-}
-
-/// LCTL 0,0,X'110' and SPX X'114'; MVI to 511, and after its interruption MVI to 512.
-#[test]
-fn low_addresses(rt: HostRuntime) -> Result<(), Fail> {
-    let mut storage = blank(rt.alloc())?;
-    put(
-        &mut storage,
-        ENTRY,
-        &[
-            0xB7, 0x00, 0x01, 0x10, 0xB2, 0x10, 0x01, 0x14, 0x92, 0xAA, 0x01, 0xFF,
-        ],
-    );
-    put(&mut storage, 0x1_0080, &[0x92, 0xBB, 0x02, 0x00]);
-    put(
-        &mut storage,
-        0x110,
-        &[0x10, 0x00, 0x00, 0xE0, 0x00, 0x00, 0x40, 0x00],
-    );
-    put_psw(&mut storage, 0x4068, AFTER);
-    let mut machine = started(rt.alloc(), storage)?;
-    commits(&mut machine, 2)?;
-    let refused = turn(&mut machine, FIRST)?;
-    assert_eq!(rt; refused.psw, AFTER);
-    let want = [
-        (0x4029, 0x08),
-        (0x402C, 0x80),
-        (0x402D, 0x01),
-        (0x402F, 0x0C),
-        (0x408D, 0x04),
-        (0x408F, 0x04),
-    ];
-    assert!(rt; changes(&refused, &want));
-    let stored = turn(&mut machine, FIRST)?;
-    assert!(rt; changes(&stored, &[(0x4200, 0xBB)]));
-    assert_eq!(rt; machine.byte(0x4200), Some(0xBB));
-    assert_eq!(rt; machine.byte(0x200), Some(0));
-    assert_eq!(rt; machine.byte(0x2_0000), None);
-    assert_eq!(rt; machine.key_of(4), Some(0x06));
-    assert_eq!(rt; machine.key_of(0), Some(0x04));
-    assert_eq!(rt; machine.key_of(32), None);
-    Ok(())
-}
-
-/// LPSW of a PSW.
-fn loading(alloc: Global, psw: Psw) -> Result<AbsStorage, Fail> {
-    let mut storage = blank(alloc)?;
-    put(&mut storage, ENTRY, &[0x82, 0x00, 0x01, 0x08]);
-    put_psw(&mut storage, 0x108, psw);
-    Ok(storage)
-}
-
-#[test]
-fn early_exception(rt: HostRuntime) -> Result<(), Fail> {
-    let mut storage = loading(rt.alloc(), ZERO)?;
-    put(&mut storage, 40, &[0xFF; 8]);
-    put_psw(&mut storage, 104, AFTER);
-    let mut machine = started(rt.alloc(), storage)?;
-    commits(&mut machine, 1)?;
-    let early = turn(&mut machine, FIRST)?;
-    assert_eq!(rt; early.psw, AFTER);
-    let want = [
-        (0x28, 0),
-        (0x29, 0),
-        (0x2A, 0),
-        (0x2B, 0),
-        (0x2C, 0),
-        (0x2D, 0),
-        (0x2E, 0),
-        (0x2F, 0),
-        (0x8F, 6),
-    ];
-    assert!(rt; changes(&early, &want));
-    Ok(())
-}
-
-/// A CPU that waits with external interruptions enabled is idle until its interrupt key is pressed.
-#[test]
-fn wait_and_interrupt_key(rt: HostRuntime) -> Result<(), Fail> {
-    let waiting = Psw {
-        w0: 0x010A_0000,
-        w1: 0x8001_0010,
-    };
-    let mut storage = loading(rt.alloc(), waiting)?;
-    put_psw(&mut storage, 88, AFTER);
-    let mut machine = started(rt.alloc(), storage)?;
-    commits(&mut machine, 1)?;
-    let idle = turn(&mut machine, FIRST)?;
-    assert_eq!(rt; idle.outcome, Outcome::Idle);
-    assert_eq!(rt; idle.psw, ZERO);
-    assert!(rt; changes(&idle, &[]));
-    assert_eq!(rt; [machine.turns(), machine.commits()], [2, 1]);
-    if machine.registers(FIRST).is_some() && machine.turns() < 1000 {
-        machine.key(FIRST);
+fn core_of(p: &Plant, cpu: CpuNo) -> Option<CoreNo> {
+    if cpu.0 >= p.machine.cpus() {
+        return None;
     }
-    assert_eq!(rt; [machine.turns(), machine.commits()], [3, 1]);
-    let taken = turn(&mut machine, FIRST)?;
-    assert_eq!(rt; taken.outcome, Outcome::Committed);
-    assert_eq!(rt; taken.psw, AFTER);
-    let want = [
-        (0x18, 0x01),
-        (0x19, 0x0A),
-        (0x1C, 0x80),
-        (0x1D, 0x01),
-        (0x1F, 0x10),
-        (0x87, 0x40),
+    Some(p.machine.core(cpu))
+}
+
+fn entry(turn: u64, core: u8, what: What) -> Entry {
+    Entry {
+        turn,
+        cpu: FIRST,
+        core: CoreNo(core),
+        what,
+    }
+}
+
+/// Where the entries stand in a list from a place on, the place after them.
+fn place_after(entries: &[Entry], want: &[Entry], from: usize) -> Option<usize> {
+    let mut at = from;
+    for e in entries {
+        if at >= want.len() || want[at] != *e {
+            return None;
+        }
+        at += 1;
+    }
+    Some(at)
+}
+
+/// Whether so many turns of CPU 0 have these entries and no others.
+fn logs(p: &mut Plant, turns: u64, want: &[Entry]) -> bool {
+    let mut at = 0;
+    for _k in 0..turns {
+        let Some(made) = turn(p, FIRST) else {
+            return false;
+        };
+        match place_after(made.entries.as_slice(), want, at) {
+            None => return false,
+            Some(after) => at = after,
+        }
+    }
+    at == want.len()
+}
+
+/// Three retries at attempts from the third on, and a fourth failure: turns 3 to 9.
+fn retries_in_vain() -> [Entry; 7] {
+    [
+        entry(3, 0, What::Fail(Cause::Mismatch, 2)),
+        entry(4, 0, What::Retry(1)),
+        entry(5, 0, What::Fail(Cause::Mismatch, 3)),
+        entry(6, 0, What::Retry(2)),
+        entry(7, 0, What::Fail(Cause::Mismatch, 4)),
+        entry(8, 0, What::Retry(3)),
+        entry(9, 0, What::Fail(Cause::Mismatch, 5)),
+    ]
+}
+
+/// Whether the whole greeting was written, at the tenth commit.
+fn has_greeted(p: &Plant) -> bool {
+    let end = Psw {
+        w0: 0x0008_2000,
+        w1: 0x8001_001C,
+    };
+    p.machine.commits() == 10
+        && p.machine.console_counts() == (2, 0)
+        && psw_of(p, FIRST) == Some(end)
+}
+
+/// Two turns are lost to a strike that is undone.
+fn greets_after_retry(alloc: Global, script: &[u8], why: Cause) -> Result<bool, Fail>
+    requires { length script.now < 2 ^ 32 }
+{
+    let mut p = started(
+        alloc,
+        machine_of(1, 0, 3),
+        loaded(alloc, &GREETING)?,
+        script,
+    )?;
+    let want = [entry(3, 0, What::Fail(why, 2)), entry(4, 0, What::Retry(1))];
+    Ok(logs(&mut p, 12, &want) && has_greeted(&p))
+}
+
+#[test]
+fn unused_bit(rt: HostRuntime) -> Result<(), Fail> {
+    let alloc = rt.alloc();
+    let mismatch = greets_after_retry(alloc, b"U 0 2 A 2000 1", Cause::Mismatch)?;
+    assert!(rt; mismatch);
+    let store = greets_after_retry(alloc, b"S 0 2 4096", Cause::Store)?;
+    assert!(rt; store);
+    let fetch = greets_after_retry(alloc, b"F 0 2 64", Cause::Fetch)?;
+    assert!(rt; fetch);
+    Ok(())
+}
+
+/// CPU 0 goes on on core 8, and core 0 is a spare again after its return.
+#[test]
+fn spare_taken(rt: HostRuntime) -> Result<(), Fail> {
+    let alloc = rt.alloc();
+    let storage = loaded(alloc, &GREETING)?;
+    let mut p = started(alloc, machine_of(1, 1, 3), storage, b"U 0 2 A 2000 *")?;
+    assert!(rt; logs(&mut p, 9, &retries_in_vain()) && psw_of(&p, FIRST).is_none());
+    let spared = [
+        entry(10, 0, What::Fenced),
+        entry(10, 0, What::Spared(CoreNo(8))),
     ];
-    assert!(rt; changes(&taken, &want));
-    assert_eq!(rt; [machine.turns(), machine.commits()], [4, 2]);
+    assert!(rt; logs(&mut p, 1, &spared) && logs(&mut p, 8, &[]));
+    assert!(rt; has_greeted(&p) && core_of(&p, FIRST) == Some(CoreNo(8)));
+    assert!(rt; return_core(&mut p, CoreNo(0)).is_some());
+    assert!(rt; return_core(&mut p, CoreNo(0)).is_none());
+    assert!(rt; p.machine.turns() == 20);
     Ok(())
 }
 
-/// LA 1,X'800'; LA 3,5; DIAGNOSE 1,3,X'104'; DIAGNOSE 1,3,X'100', with three bytes of console input.
+/// A bit of word 5 is wrong as the 17th attempt is to begin, no bit, or two.
+fn reads_word_5(alloc: Global, script: &[u8], want: &[Entry], commits: u64) -> Result<bool, Fail>
+    requires { length script.now < 2 ^ 32 }
+{
+    let mut p = started(alloc, machine_of(1, 0, 3), loaded(alloc, &LOOP)?, script)?;
+    Ok(logs(&mut p, 20, want) && p.machine.commits() == commits)
+}
+
 #[test]
-fn console(rt: HostRuntime) -> Result<(), Fail> {
-    let mut storage = blank(rt.alloc())?;
-    put(
-        &mut storage,
-        ENTRY,
-        &[
-            0x41, 0x10, 0x08, 0x00, 0x41, 0x30, 0x00, 0x05, 0x83, 0x13, 0x01, 0x04, 0x83, 0x13,
-            0x01, 0x00,
-        ],
-    );
-    let input = Vec::from_array(rt.alloc(), [0xC8, 0xC9, 0x5A])?;
-    let entry = Loaded { address: ENTRY };
-    let mut machine = Machine::new(rt.alloc(), storage, entry, 1, input)?;
-    commits(&mut machine, 2)?;
-    let read = turn(&mut machine, FIRST)?;
-    let want = [(0x800, 0xC8), (0x801, 0xC9), (0x802, 0x5A)];
-    assert!(rt; changes(&read, &want));
-    assert_eq!(rt; general(&machine, 3), Some(3));
-    assert_eq!(rt; machine.console_counts(), (0, 3));
-    let written = turn(&mut machine, FIRST)?;
-    assert_eq!(rt;
-        written.written.console.as_slice(),
-        [0xC8, 0xC9, 0x5A].as_slice()
-    );
-    assert!(rt; changes(&written, &[]));
-    assert_eq!(rt; machine.console_counts(), (3, 3));
+fn word_strikes(rt: HostRuntime) -> Result<(), Fail> {
+    let alloc = rt.alloc();
+    let one = reads_word_5(
+        alloc,
+        b"W 0 3 5 10",
+        &[entry(17, 0, What::Corrected(5, 10))],
+        20,
+    )?;
+    assert!(rt; one);
+    let lost = [
+        entry(17, 0, What::Uncorrectable(5)),
+        entry(17, 0, What::Fenced),
+        entry(17, 0, What::Stop),
+    ];
+    let two = reads_word_5(alloc, b"W 0 3 5 10\nW 0 4 5 11", &lost, 16)?;
+    assert!(rt; two);
+    let none = reads_word_5(alloc, b"W 0 3 5 10\nW 0 4 5 10", &[], 20)?;
+    assert!(rt; none);
     Ok(())
 }
 
-/// CPU 1 is stopped, also after CPU 0 ran.
+/// Core 0 is fenced, returned, and taken as a spare for core 8.
 #[test]
-fn two_cpus(rt: HostRuntime) -> Result<(), Fail> {
-    let mut storage = blank(rt.alloc())?;
-    put(&mut storage, ENTRY, &[0x41, 0x10, 0x00, 0x05]);
-    let entry = Loaded { address: ENTRY };
-    let console = Vec::new(rt.alloc());
-    let mut machine = Machine::new(rt.alloc(), storage, entry, 2, console)?;
-    assert_eq!(rt; machine.cpus(), 2);
-    assert_eq!(rt; turn(&mut machine, SECOND)?.outcome, Outcome::Idle);
-    assert_eq!(rt; turn(&mut machine, FIRST)?.outcome, Outcome::Committed);
-    assert_eq!(rt; turn(&mut machine, SECOND)?.outcome, Outcome::Idle);
-    assert_eq!(rt; [machine.turns(), machine.commits()], [3, 1]);
-    assert_eq!(rt; machine.state(FIRST), CpuState::Operating);
-    assert_eq!(rt; machine.state(SECOND), CpuState::Stopped);
-    assert_eq!(rt; machine.core(SECOND), CoreNo(1));
-    assert_eq!(rt; general(&machine, 1), Some(5));
-    assert!(rt; machine.registers(CpuNo(2)).is_none());
+fn repaired_core(rt: HostRuntime) -> Result<(), Fail> {
+    let alloc = rt.alloc();
+    let storage = loaded(alloc, &LOOP)?;
+    let script = b"U 0 2 A 2000 4\nU 8 0 A 2000 *";
+    let mut p = started(alloc, machine_of(1, 1, 3), storage, script)?;
+    assert!(rt; logs(&mut p, 9, &retries_in_vain()));
+    let spared = [
+        entry(10, 0, What::Fenced),
+        entry(10, 0, What::Spared(CoreNo(8))),
+    ];
+    assert!(rt; logs(&mut p, 1, &spared));
+    let returned = Entry {
+        turn: 11,
+        cpu: CpuNo(255),
+        core: CoreNo(0),
+        what: What::Returned,
+    };
+    assert_eq!(rt; return_core(&mut p, CoreNo(0)), Some(returned));
+    let want = [
+        entry(12, 8, What::Fail(Cause::Mismatch, 0)),
+        entry(13, 8, What::Retry(1)),
+        entry(14, 8, What::Fail(Cause::Mismatch, 1)),
+        entry(15, 8, What::Retry(2)),
+        entry(16, 8, What::Fail(Cause::Mismatch, 2)),
+        entry(17, 8, What::Retry(3)),
+        entry(18, 8, What::Fail(Cause::Mismatch, 3)),
+        entry(19, 8, What::Fenced),
+        entry(19, 8, What::Spared(CoreNo(0))),
+    ];
+    assert!(rt; logs(&mut p, 9, &want));
+    assert_eq!(rt; [p.machine.turns(), p.machine.commits()], [20, 3]);
     Ok(())
 }
 
-/// CPU 0 starts CPU 1, whose PSW is zero: its first event is an early exception.
+/// At threshold 0 the first failure gives the core up. The interrupt key stays pending, since the
+/// PSW does not enable it.
 #[test]
-fn signal_processor(rt: HostRuntime) -> Result<(), Fail> {
-    let mut storage = blank(rt.alloc())?;
-    // LHI 3,1; SIGP 1,3,4 (start)
-    put(
-        &mut storage,
-        ENTRY,
-        &[0xA7, 0x38, 0x00, 0x01, 0xAE, 0x13, 0x00, 0x04],
-    );
-    let entry = Loaded { address: ENTRY };
-    let mut machine = Machine::new(rt.alloc(), storage, entry, 2, Vec::new(rt.alloc()))?;
-    commits(&mut machine, 1)?;
-    assert_eq!(rt; machine.state(SECOND), CpuState::Stopped);
-    commits(&mut machine, 1)?;
-    assert_eq!(rt; machine.state(SECOND), CpuState::Operating);
-    let made = turn(&mut machine, SECOND)?;
-    assert_eq!(rt; made.outcome, Outcome::Committed);
-    assert_eq!(rt; made.psw, ZERO);
-    assert!(rt; changes(&made, &[(0x8F, 6)]));
+fn no_retry_and_key(rt: HostRuntime) -> Result<(), Fail> {
+    let alloc = rt.alloc();
+    let storage = loaded(alloc, &GREETING)?;
+    let mut p = started(alloc, machine_of(1, 1, 0), storage, b"U 0 2 B 0 1")?;
+    assert!(rt; logs(&mut p, 2, &[]));
+    press_key(&mut p, FIRST);
+    let want = [
+        entry(4, 0, What::Fail(Cause::Mismatch, 2)),
+        entry(5, 0, What::Fenced),
+        entry(5, 0, What::Spared(CoreNo(8))),
+    ];
+    assert!(rt; logs(&mut p, 10, &want));
+    assert!(rt; has_greeted(&p));
+    assert_eq!(rt; p.machine.turns(), 13);
     Ok(())
 }

@@ -1,17 +1,24 @@
--- The turns that inputs of the form that is built ask for. Source: choice of this project.
-use Rattle.std.specs.Prelude.{ℕ, Bool, true, false, if◌then◌else◌, List, [], ◌∷◌, Option, Some, None}
-use Rattle.g5_run.specs.Inputs.{InputBytes}
-use Rattle.g5_run.specs.ScheduleForm.{turns_in}
+-- The commands that are built. The others are refused like words of no form.
+-- Source: choice of this project, for the time until all are built.
+use Rattle.std.specs.Prelude.{Bool, true, false, List, Option, Some, None, option_and_then, if◌then◌else◌}
+use Rattle.program_model.specs.Commands.{Command, command, run, debug, generate, migrate, assemble, disassemble, link, save, resume, audit}
+use Rattle.program_model.specs.Given.{Text}
 
-abbrev pub is_nothing : Option (List ℕ) → Bool
-is_nothing None = false
-is_nothing (Some []) = true
-is_nothing (Some (b ∷ bs)) = false
+abbrev pub is_built : Command → Bool
+is_built (run names config) = true
+is_built (debug names config) = false
+is_built (generate number turns) = false
+is_built (migrate old new) = false
+is_built (assemble source deck) = false
+is_built (disassemble deck at count) = false
+is_built (link out decks) = false
+is_built (save turns names file config) = false
+is_built (resume names) = false
+is_built (audit log) = false
 
-abbrev pub schedule_turns : Option (List ℕ) → Option ℕ
-schedule_turns None = None
-schedule_turns (Some text) = turns_in text
+abbrev pub if_built : Command → Option Command
+if_built c = if is_built c then Some c else None
 
--- the script is empty, and the schedule has its form
-unfoldable pub asked : InputBytes → Option ℕ
-asked inputs = if is_nothing inputs.script then schedule_turns inputs.schedule else None
+-- what the words ask for
+unfoldable pub asked : List Text → Option Command
+asked words = option_and_then if_built (command words)

@@ -1,30 +1,29 @@
--- What follows from how the program ends.
-use Rattle.std.specs.Prelude.{ℕ, IsTrue}
-use Rattle.g5_outside.specs.Views.{ShelfView, SinkView}
+-- What follows from how the program ends. Source: choice of this project.
+use Rattle.std.specs.Prelude.{◌≡◌, ◌⊎◌, IsTrue}
 use Rattle.g5_outside.specs.Causes.{Rose}
-use Rattle.esa_model.specs.Machine.{Machine as Model}
-use Rattle.g5_run.specs.Words.{Names}
-use Rattle.g5_run.specs.Readiness.{IsRun}
-use Rattle.g5_run.specs.declared.status.Status.{Status}
-use Rattle.g5_run.specs.declared.status.Status.TheVariants.{Done, Usage, NoFile, ReadFault, WriteFault, DeckRefused, TooLarge, NoMemory, NotYet}
+use Rattle.g5_outside.specs.Views.{ShelfView, SinkView}
+use Rattle.program_model.specs.Accepted.{Job}
+use Rattle.program_model.specs.Commands.{JobNames}
+use Rattle.program_model.specs.declared.status.Status.{Status}
+use Rattle.program_model.specs.declared.status.Status.TheVariants.{Done, CheckStopped, WriteFault}
+use Rattle.run_model.specs.declared.logs.Config.{Config}
+use Rattle.g5_run.specs.Accepting.{IsJob}
 
 -- the statuses at which no file was created and nothing written
 abbrev pub ComesBeforeOutput : Status → Type 0
 ComesBeforeOutput Done = ⊥
-ComesBeforeOutput Usage = Unit {0}
-ComesBeforeOutput (NoFile input) = Unit {0}
-ComesBeforeOutput ReadFault = Unit {0}
+ComesBeforeOutput CheckStopped = ⊥
 ComesBeforeOutput WriteFault = ⊥
-ComesBeforeOutput (DeckRefused refusal) = Unit {0}
-ComesBeforeOutput (TooLarge input) = Unit {0}
-ComesBeforeOutput NoMemory = Unit {0}
-ComesBeforeOutput NotYet = Unit {0}
+ComesBeforeOutput status = Unit {0}
 
--- the files are told, and the inputs ask for a run of so many turns
-pub record IsAccepted (names : Names) (shelf : ShelfView) (turns : ℕ) : Type 0 where
+-- the schedule was made to its end
+abbrev pub IsMade : Status → Type 0
+IsMade status = (status ≡ Done) ⊎ (status ≡ CheckStopped)
+
+-- the files are told, and give this job
+pub record IsAccepted (names : JobNames) (c : Config) (j : Job) (shelf : ShelfView) : Type 0 where
   pub told : IsTrue shelf.told
-  pub m : Model
-  pub run : IsRun names shelf turns m
+  pub is : IsJob names c j shelf
 
 -- no count of faults rose
 pub record NothingFailed (old new : ShelfView) (out_old out_new : SinkView) : Type 0 where

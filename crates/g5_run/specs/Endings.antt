@@ -1,11 +1,13 @@
--- How a job ends, before anything is said of it.
+-- How a run ends, before anything is said of it. Source: choice of this project.
 use Rattle.g5_outside.specs.Views.{ShelfView, SinkView}
-use Rattle.g5_run.specs.Words.{Names}
-use Rattle.g5_run.specs.Ends.{EndsWhole, EndsEarly}
-use Rattle.g5_run.specs.RunTexts.{faultless}
-use Rattle.g5_run.specs.declared.top.Ending.{Ending}
-use Rattle.g5_run.specs.declared.top.Ending.TheVariants.{Whole, Early}
+use Rattle.program_model.specs.Commands.{JobNames}
+use Rattle.run_model.specs.declared.logs.Config.{Config}
+use Rattle.silicon.specs.Chip.{Chip}
+use Rattle.g5_run.specs.Ends.{EndsEarly, EndsWhole}
+use Rattle.g5_run.specs.declared.job.Ending.{Ending}
+use Rattle.g5_run.specs.declared.job.Ending.TheVariants.{Whole, Early}
 
-abbrev pub IsEnding : Names → ShelfView → ShelfView → SinkView → SinkView → Ending → Type 0
-IsEnding names a b o p (Whole tally) = EndsWhole names (faultless tally.turns tally.commits) a b o p
-IsEnding names a b o p (Early status) = EndsEarly names a b o p status
+abbrev pub IsEnding : JobNames → Config → ShelfView → ShelfView → SinkView → SinkView → Chip → Ending
+    → Type 0
+IsEnding names c a b o p z (Whole within count) = EndsWhole names c count within a b o p z
+IsEnding names c a b o p z (Early status) = EndsEarly names c a b o p status

@@ -1,99 +1,131 @@
--- How a run of the program ends, and what it leaves.
-use Rattle.std.specs.Prelude.{◌≡◌, ◌⊎◌, ℕ, List, [], ◌∷◌, ◌++◌, Option, Some, None, IsTrue, true, codes}
-use Rattle.g5_outside.specs.Views.{ShelfView, SinkView}
+-- How the program ends: each status by its cause, with what is held then and what is said of it.
+-- Source: choice of this project.
+use Rattle.std.specs.Prelude.{◌≡◌, ◌⊎◌, ◌<◌, ◌==◌, ℕ, List, Bool, true, false, IsTrue, ◌↔◌, Option, Some, None, length, codes, if◌then◌else◌}
+use Rattle.checkpoint_laws.specs.Stored.{StoredAs}
 use Rattle.g5_outside.specs.Causes.{Rose}
-use Rattle.g5_writing.specs.Starts.{text_named, OnlyNames}
-use Rattle.run_model.specs.declared.outputs.Place.TheVariants.{Log, Trace, Out}
-use Rattle.run_model.specs.Pieces.{Piece, text, IsCut}
-use Rattle.esa_model.specs.Machine.{Machine as Model}
+use Rattle.g5_outside.specs.Views.{ShelfView, SinkView}
+use Rattle.g5_words.specs.Ranges.{IsInLimits}
+use Rattle.g5_writing.specs.Starts.{OnlyNames}
+use Rattle.machine_runs.specs.Whole.{pieces_by}
+use Rattle.program_model.specs.Accepted.{Job}
+use Rattle.program_model.specs.Commands.{Command, JobNames, run}
+use Rattle.program_model.specs.Inputs.{input_name}
+use Rattle.program_model.specs.Statuses.{line_of}
+use Rattle.program_model.specs.declared.status.Status.{Status}
+use Rattle.program_model.specs.declared.status.Status.TheVariants.{Done, CheckStopped, Usage, WriteFault, NoMemory}
+use Rattle.run_model.specs.declared.logs.Config.{Config}
 use Rattle.run_model.specs.declared.outputs.Counts.{Counts}
+use Rattle.run_model.specs.Cores.{is_lost}
 use Rattle.run_model.specs.Counts.{counts}
-use Rattle.run_model.specs.Texts.{report}
-use Rattle.g5_run.specs.Words.{Names}
-use Rattle.g5_run.specs.RunTexts.{run_pieces, run_tells}
-use Rattle.g5_run.specs.Readiness.{IsRun, IsNotReady}
-use Rattle.g5_run.specs.Lines.{line_of}
-use Rattle.g5_run.specs.Says.{Says}
-use Rattle.g5_run.specs.declared.status.Status.{Status}
-use Rattle.g5_run.specs.declared.status.Status.TheVariants.{Done, Usage, NoFile, ReadFault, WriteFault, DeckRefused, TooLarge, NoMemory, NotYet}
+use Rattle.run_model.specs.Pieces.{IsCut, Piece}
+use Rattle.run_model.specs.Premise.{Within}
+use Rattle.run_model.specs.Runs.{Model, Told}
+use Rattle.run_model.specs.Texts.{report, whole}
+use Rattle.silicon.specs.Chip.{Chip}
+use Rattle.status_lines.specs.Says.{Says}
+use Rattle.g5_run.specs.Accepting.{IsJob, IsRefused}
+use Rattle.g5_run.specs.Holding.{Holds, HasOutputs, Untouched}
+use Rattle.g5_run.specs.RunTells.{RunTells, IsSound, state_after, turns}
 
--- log, trace and console have these pieces; a file that could not be created has none
-pub record Holds (names : Names) (pieces : List Piece) (shelf : ShelfView) (out_old out_new : SinkView) : Type 0 where
-  pub log : IsTrue shelf.told → text_named shelf names.log ≡ text Log pieces
-  pub trace : IsTrue shelf.told → text_named shelf names.trace ≡ text Trace pieces
-  pub out : IsTrue out_old.told → out_new.taken ≡ out_old.taken ++ text Out pieces
+-- ---- a run that was made to its end
 
--- no file was created, and nothing written
-pub record Untouched (old new : ShelfView) (out_old out_new : SinkView) : Type 0 where
-  pub numbers : new.numbers ≡ old.numbers
-  pub out : out_new ≡ out_old
-
--- log and trace were created under their names, and no other file
-pub record HasOutputs (names : Names) (shelf : ShelfView) : Type 0 where
-  pub log : ℕ
-  pub trace : ℕ
-  pub numbers : shelf.numbers ≡ trace ∷ log ∷ []
-  pub log_name : IsTrue shelf.told → shelf.name_of log ≡ names.log
-  pub trace_name : IsTrue shelf.told → shelf.name_of trace ≡ names.trace
+-- the silicon has the attempts begun, and each core with a CPU that is not lost stores the CPU's
+-- registers, with the wrong positions of this state
+pub record LeavesSilicon (c : Config) (x : Model) (z : Chip) : Type 0 where
+  pub begun : (k : ℕ) → k < 16 → z.begun k ≡ x.fate.begun k
+  pub words : (i : ℕ) → i < c.cpus → is_lost (x.fate.cores.mode i) ≡ false
+      → StoredAs z (x.fate.cores.core i) (x.machine.registers i)
+      (x.fate.wrong (x.fate.cores.core i))
 
 -- all turns of the schedule were made, these are their counts, and the outputs are whole
-pub record EndsWhole (names : Names) (count : Counts) (old new : ShelfView) (out_old out_new : SinkView) : Type 0 where
-  pub m : Model
-  pub turns : ℕ
-  pub run : IsRun names old turns m
-  pub counted : count ≡ counts (run_tells turns m)
-  pub holds : Holds names (run_pieces turns m) new out_old out_new
-  pub outputs : HasOutputs names new
-  pub told : new.told ≡ old.told
-  pub found : new.found ≡ true
+pub record EndsWhole (names : JobNames) (c : Config) (count : Counts) (within : Bool)
+    (a b : ShelfView) (o p : SinkView) (z : Chip) : Type 0 where
+  pub job : Job
+  pub inputs : IsJob names c job a
+  pub premise : IsTrue within ↔ Within job.strikes
+  pub told : List Told
+  pub tells : RunTells c job told
+  pub all : length told ≡ length (turns job)
+  pub counted : count ≡ counts told
+  pub holds : Holds names (whole c told) b o p
+  pub outputs : HasOutputs names b
+  pub silicon : IsSound c job (length (turns job))
+      → LeavesSilicon c (state_after c job (length (turns job))) z
+  pub told_still : b.told ≡ a.told
+  pub found : b.found ≡ true
 
--- the pieces before a failed write are whole, that one is there in part or not at all, and those behind it are missing
-pub record EndsCut (names : Names) (old new : ShelfView) (out_old out_new : SinkView) : Type 0 where
-  pub m : Model
-  pub turns : ℕ
-  pub run : IsRun names old turns m
+-- 20 where a CPU was check-stopped
+abbrev pub status_by : Counts → Status
+status_by n = if n.stopped == 0 then Done else CheckStopped
+
+-- the report is said
+pub record Reports (names : JobNames) (c : Config) (a b : ShelfView) (o p e f : SinkView)
+    (z : Chip) (status : Status) : Type 0 where
+  pub count : Counts
+  pub within : Bool
+  pub whole : EndsWhole names c count within a b o p z
+  pub status_is : status ≡ status_by count
+  pub said : Says (report within count) e f
+
+-- ---- a run whose outputs were cut
+
+-- the pieces before a failed write are whole, that one is there in part or not at all, and those
+-- behind it are missing; the tail of the log is among them only once all turns were made
+pub record EndsCut (names : JobNames) (c : Config) (a b : ShelfView) (o p : SinkView) : Type 0 where
+  pub job : Job
+  pub inputs : IsJob names c job a
+  pub told : List Told
+  pub tells : RunTells c job told
+  pub ended : Bool
+  pub all : IsTrue ended → length told ≡ length (turns job)
   pub held : List Piece
-  pub cut : IsCut held (run_pieces turns m)
-  pub holds : Holds names held new out_old out_new
-  pub named : IsTrue new.told → OnlyNames names.log names.trace new
-  pub told : new.told ≡ old.told
-  pub cause : Rose old.write_faults new.write_faults ⊎ Rose out_old.faults out_new.faults
-  pub found : new.found ≡ true
+  pub cut : IsCut held (pieces_by ended c told)
+  pub holds : Holds names held b o p
+  pub named : IsTrue b.told → OnlyNames names.log names.trace b
+  pub told_still : b.told ≡ a.told
+  pub cause : Rose a.write_faults b.write_faults ⊎ Rose o.faults p.faults
+  pub found : b.found ≡ true
 
-pub record EndsUntouched (cause : Type 0) (old new : ShelfView) (out_old out_new : SinkView) : Type 0 where
-  pub because : cause
-  pub untouched : Untouched old new out_old out_new
+-- ---- by its status
 
--- each status of a job but Done by its cause, with what is held
-abbrev pub EndsEarly : Names → ShelfView → ShelfView → SinkView → SinkView → Status → Type 0
-EndsEarly names a b o p Done = ⊥
-EndsEarly names a b o p Usage = ⊥
-EndsEarly names a b o p (NoFile input) = EndsUntouched (IsNotReady names a b (NoFile input)) a b o p
-EndsEarly names a b o p ReadFault = EndsUntouched (IsNotReady names a b ReadFault) a b o p
-EndsEarly names a b o p WriteFault = EndsCut names a b o p
-EndsEarly names a b o p (DeckRefused refusal) = EndsUntouched (IsNotReady names a b (DeckRefused refusal)) a b o p
-EndsEarly names a b o p (TooLarge input) = EndsUntouched (IsNotReady names a b (TooLarge input)) a b o p
-EndsEarly names a b o p NoMemory = EndsUntouched (IsNotReady names a b NoMemory) a b o p
-EndsEarly names a b o p NotYet = EndsUntouched (IsNotReady names a b NotYet) a b o p
+-- nothing was begun, for this cause
+pub record EndsUntouched (names : JobNames) (c : Config) (a b : ShelfView) (o p : SinkView)
+    (status : Status) : Type 0 where
+  pub because : IsRefused names c a b status
+  pub untouched : Untouched a b o p
 
--- Done has the report on `err`, and each other status its line
-abbrev pub JobEnds : Names → ShelfView → ShelfView → SinkView → SinkView → SinkView → SinkView → Status → Type 0
-JobEnds names a b o p e f Done = (count : Counts) × EndsWhole names count a b o p × Says (report true count) e f
-JobEnds names a b o p e f Usage = ⊥
-JobEnds names a b o p e f (NoFile input) = EndsEarly names a b o p (NoFile input) × Says (line_of names (NoFile input)) e f
-JobEnds names a b o p e f ReadFault = EndsEarly names a b o p ReadFault × Says (line_of names ReadFault) e f
-JobEnds names a b o p e f WriteFault = EndsEarly names a b o p WriteFault × Says (line_of names WriteFault) e f
-JobEnds names a b o p e f (DeckRefused refusal) = EndsEarly names a b o p (DeckRefused refusal) × Says (line_of names (DeckRefused refusal)) e f
-JobEnds names a b o p e f (TooLarge input) = EndsEarly names a b o p (TooLarge input) × Says (line_of names (TooLarge input)) e f
-JobEnds names a b o p e f NoMemory = EndsEarly names a b o p NoMemory × Says (line_of names NoMemory) e f
-JobEnds names a b o p e f NotYet = EndsEarly names a b o p NotYet × Says (line_of names NotYet) e f
+-- before all turns were made
+abbrev pub EndsEarly : JobNames → Config → ShelfView → ShelfView → SinkView → SinkView → Status
+    → Type 0
+EndsEarly names c a b o p Done = ⊥
+EndsEarly names c a b o p CheckStopped = ⊥
+EndsEarly names c a b o p WriteFault = EndsCut names c a b o p
+EndsEarly names c a b o p status = EndsUntouched names c a b o p status
 
--- words that are of no job's form touch nothing
-pub record UsageEnds (old new : ShelfView) (out_old out_new err_old err_new : SinkView) : Type 0 where
-  pub untouched : Untouched old new out_old out_new
-  pub said : Says (codes "usage" ++ 10 ∷ []) err_old err_new
+abbrev pub JobEnds : JobNames → Config → ShelfView → ShelfView → SinkView → SinkView → SinkView
+    → SinkView → Chip → Status → Type 0
+JobEnds names c a b o p e f z Done = Reports names c a b o p e f z Done
+JobEnds names c a b o p e f z CheckStopped = Reports names c a b o p e f z CheckStopped
+JobEnds names c a b o p e f z status =
+    EndsEarly names c a b o p status × Says (line_of (input_name (run names c)) status) e f
 
--- how the program ends, by its words
-abbrev pub Ends : Option Names → ShelfView → ShelfView → SinkView → SinkView → SinkView → SinkView → Status → Type 0
-Ends None a b o p e f status = (status ≡ Usage) × UsageEnds a b o p e f
-Ends (Some names) a b o p e f status = JobEnds names a b o p e f status
+-- the words ask for a run, and it ends so
+pub record RunEnds (asked : Option Command) (a b : ShelfView) (o p e f : SinkView) (z : Chip)
+    (status : Status) : Type 0 where
+  pub names : JobNames
+  pub config : Config
+  pub is : asked ≡ Some (run names config)
+  pub limits : IsInLimits config
+  pub ends : JobEnds names config a b o p e f z status
+
+-- nothing was touched, and this was said
+pub record SaysAlone (text : List ℕ) (a b : ShelfView) (o p e f : SinkView) : Type 0 where
+  pub untouched : Untouched a b o p
+  pub said : Says text e f
+
+-- how the program ends, by what the words ask for
+abbrev pub Ends : Option Command → ShelfView → ShelfView → SinkView → SinkView → SinkView
+    → SinkView → Chip → Status → Type 0
+Ends asked a b o p e f z Usage = (asked ≡ None) × SaysAlone (codes "usage\n") a b o p e f
+Ends asked a b o p e f z NoMemory = SaysAlone (codes "no memory\n") a b o p e f
+Ends asked a b o p e f z status = RunEnds asked a b o p e f z status

@@ -1,59 +1,37 @@
--- What is so before a file is created: the run that the inputs ask for, or why there is none.
-use Rattle.std.specs.Prelude.{◌≡◌, ℕ, Ok, Some, None, true}
+-- What is so before a file is created: a machine at its start, for the job of the inputs.
+-- Source: choice of this project.
+use Rattle.std.specs.Prelude.{◌≡◌, ◌≤◌, ◌↔◌, All, IsTrue, true}
 use Rattle.g5_outside.specs.Views.{ShelfView}
-use Rattle.g5_outside.specs.Causes.{Rose}
-use Rattle.deck_model.specs.Image.{Image, image}
-use Rattle.esa_model.specs.Machine.{Machine as Model, start}
-use Rattle.g5_machine.specs.Turns.{StandsFor}
-use Rattle.g5_run.specs.Words.{Names}
-use Rattle.g5_run.specs.Inputs.{InputBytes, AreRead, IsAbsent, IsAboveLimit}
-use Rattle.g5_run.specs.Asked.{asked}
-use Rattle.g5_run.specs.Making.{none_made}
-use Rattle.g5_run.specs.DeckRefusals.{storage_size, IsDeckRefusal}
-use Rattle.deck_model.specs.declared.decks.DeckRefusal.{DeckRefusal}
-use Rattle.g5_run.specs.declared.loading.Ready.{Ready}
-use Rattle.g5_run.specs.declared.status.Status.{Status}
-use Rattle.g5_run.specs.declared.status.Status.TheVariants.{Done, Usage, NoFile, ReadFault, WriteFault, DeckRefused, TooLarge, NoMemory, NotYet}
+use Rattle.machine_runs.specs.Whole.{AtStart}
+use Rattle.machine_runs.specs.declared.twin_machine.TwinMachine.{TwinMachine}
+use Rattle.program_model.specs.Accepted.{Job, first_machine}
+use Rattle.program_model.specs.Commands.{JobNames}
+use Rattle.g5_machine.specs.Standing.{StandsFor}
+use Rattle.run_laws.specs.Bounds.{BoundedCpus}
+use Rattle.run_model.specs.declared.logs.Config.{Config}
+use Rattle.run_model.specs.Fate.{first_fate}
+use Rattle.run_model.specs.Premise.{Within}
+use Rattle.run_model.specs.Runs.{first_model}
+use Rattle.run_model.specs.Schedule.{Fits, turns_of}
+use Rattle.silicon.specs.Chip.{Chip}
+use Rattle.g5_run.specs.Accepting.{IsJob}
+use Rattle.g5_run.specs.declared.ready.Ready.{Ready}
 
--- the inputs ask for so many turns of the machine at its start
-pub record IsRun (names : Names) (shelf : ShelfView) (turns : ℕ) (m : Model) : Type 0 where
-  pub inputs : InputBytes
-  pub read : AreRead names shelf inputs
-  pub asks : asked inputs ≡ Some turns
-  pub deck : Image
-  pub deck_is : image storage_size inputs.deck ≡ Ok deck
-  pub starts : m ≡ start 1 deck.bytes deck.entry inputs.console
+-- machine and silicon stand for the start
+pub record StartsJob (c : Config) (j : Job) (z : Chip) (e : TwinMachine) : Type 0 where
+  pub config : e.machine.config ≡ c
+  pub start : AtStart e z
+  pub lines : z.lines ≡ j.strikes
+  pub stands : StandsFor e.machine z (first_model c (first_machine c j))
+  pub bounded : BoundedCpus z.lines c (first_fate c)
 
-pub record IsReady (names : Names) (old new : ShelfView) (ready : Ready) : Type 0 where
-  pub m : Model
-  pub run : IsRun names old ready.turns m
-  pub stands : StandsFor ready.machine m none_made
+pub record IsReady (names : JobNames) (c : Config) (old new : ShelfView) (z : Chip) (r : Ready) :
+    Type 0 where
+  pub job : Job
+  pub inputs : IsJob names c job old
+  pub premise : IsTrue r.within ↔ Within job.strikes
+  pub schedule : r.schedule ≡ job.runs
+  pub fits : All (λ run. Fits c.cpus run.what) job.runs
+  pub few : turns_of job.runs ≤ 1000000
+  pub starts : StartsJob c job z r.machine
   pub found : new.found ≡ true
-
--- the deck that was read is refused
-pub record HasDeckRefusal (names : Names) (old new : ShelfView) (refusal : DeckRefusal) : Type 0 where
-  pub inputs : InputBytes
-  pub read : AreRead names old inputs
-  pub refusal_is : IsDeckRefusal storage_size inputs.deck refusal
-  pub found : new.found ≡ true
-
--- the deck has an image, and schedule or script is not of the form that is built
-pub record HasUnbuiltInput (names : Names) (old new : ShelfView) : Type 0 where
-  pub inputs : InputBytes
-  pub read : AreRead names old inputs
-  pub deck : Image
-  pub deck_is : image storage_size inputs.deck ≡ Ok deck
-  pub asks : asked inputs ≡ None
-  pub found : new.found ≡ true
-
--- each status that comes before a file is created, by its cause
-abbrev pub IsNotReady : Names → ShelfView → ShelfView → Status → Type 0
-IsNotReady names old new Done = ⊥
-IsNotReady names old new Usage = ⊥
-IsNotReady names old new (NoFile input) = IsAbsent names old new input
-IsNotReady names old new ReadFault = Rose old.read_faults new.read_faults
-IsNotReady names old new WriteFault = ⊥
-IsNotReady names old new (DeckRefused refusal) = HasDeckRefusal names old new refusal
-IsNotReady names old new (TooLarge input) = IsAboveLimit names old new input
-IsNotReady names old new NoMemory = Unit {0}
-IsNotReady names old new NotYet = HasUnbuiltInput names old new

@@ -1,62 +1,62 @@
-// The words of the command line.
-ghost use Rattle.std.specs.Prelude.{◌≡◌, ◌≢◌, IsTrue, IfSome};
-ghost use Rattle.std.specs.Option.{option_map};
-ghost use Rattle.g5_run.specs.Words.{is_name, are_job_names, job_names, words_of, names_of};
+// A run, before anything is said of it.
+ghost use Rattle.std.specs.Prelude.{◌≡◌, ◌≢◌, []};
+ghost use Rattle.g5_words.specs.Asked.{job_names};
+ghost use Rattle.g5_words.specs.Ranges.{IsInLimits};
+ghost use Rattle.silicon.specs.Chip.{Fresh};
+ghost use Rattle.g5_run.specs.Endings.{IsEnding};
 
-/// The files that a job reads and writes.
-#[derive(Clone, Copy)]
-pub struct Job<'a> {
-    pub deck: &'a str,
-    pub console: &'a str,
-    pub schedule: &'a str,
-    pub script: &'a str,
-    pub log: &'a str,
-    pub trace: &'a str,
+use crate::ready::prepare;
+use g5_outside::{Shelf, Sink};
+use g5_words::JobNames;
+use g5_writing::start_files;
+use machine_runs::make_whole;
+use program_model::status::Status;
+use run_model::logs::Config;
+use run_model::outputs::Counts;
+use silicon::Silicon;
+use std::alloc::Global;
+
+/// How a run ended: after all turns of its schedule, or before.
+#[derive(Clone, Copy, Debug, PartialEq, Eq)]
+pub enum Ending {
+    /// All turns were made: whether the script is within the premise, and what was counted.
+    Whole(bool, Counts),
+    Early(Status),
 }
 
-// A word that is a name: it does not begin with a hyphen, unless it is nothing else.
-fn is_file_name(word: &str) -> bool
-    ensures { result ≡ is_name word.now }
+/// Makes the run of these files.
+pub fn run_job<F: Shelf, O: Sink, Z: Silicon>(
+    alloc: Global,
+    names: &JobNames<'_>,
+    config: Config,
+    shelf: &mut F,
+    out: &mut O,
+    silicon: &mut Z,
+) -> Ending
+    requires limits { IsInLimits config }
+    requires differ { names.now.log.now ≢ names.now.trace.now }
+    requires shelf { (F.seen shelf.old).numbers ≡ [] }
+    requires silicon { Fresh (Z.seen silicon.old) }
+    ensures { IsEnding (job_names names.now) config (F.seen shelf.old) (F.seen shelf.new)
+        (O.seen out.old) (O.seen out.new) (Z.seen silicon.new) result }
 {
-    match word.as_bytes() {
-        [first, _, ..] => *first != b'-',
-        _ => true,
-    }
-}
-
-// Whether all of these are names, and those of log and trace two.
-fn is_job(job: &Job<'_>) -> bool
-    ensures names { result ≡ are_job_names (names_of job.now) }
-    ensures differ { IsTrue result → job.now.log.now ≢ job.now.trace.now }
-{
-    is_file_name(job.deck)
-        && is_file_name(job.console)
-        && is_file_name(job.schedule)
-        && is_file_name(job.script)
-        && is_file_name(job.log)
-        && is_file_name(job.trace)
-        && job.log != job.trace
-}
-
-/// The job that the words ask for, if they are of its form: `run` and six names, of which the last two differ.
-pub fn job_of(words: &[String]) -> Option<Job<'_>>
-    ensures job { option_map names_of result ≡ job_names (words_of words.now) }
-    ensures differ { IfSome result (λ job. job.log.now ≢ job.trace.now) }
-{
-    if words.len() != 7 {
-        return None;
-    }
-    let job = Job {
-        deck: words[1].as_str(),
-        console: words[2].as_str(),
-        schedule: words[3].as_str(),
-        script: words[4].as_str(),
-        log: words[5].as_str(),
-        trace: words[6].as_str(),
+    let mut ready = match prepare(alloc, names, config, shelf, silicon) {
+        Ok(ready) => ready,
+        Err(status) => return Ending::Early(status),
     };
-    if words[0].as_str() == "run" && is_job(&job) {
-        Some(job)
-    } else {
-        None
+    let files = match start_files(shelf, names.log, names.trace) {
+        Ok(files) => files,
+        Err(_) => return Ending::Early(Status::WriteFault),
+    };
+    match make_whole(
+        &mut ready.machine,
+        silicon,
+        &ready.schedule,
+        shelf,
+        out,
+        files,
+    ) {
+        Ok(counts) => Ending::Whole(ready.within, counts),
+        Err(_) => Ending::Early(Status::WriteFault),
     }
 }

@@ -1,21 +1,12 @@
-//! The top call: all that the program does for its words, over any files, streams and machine.
+//! The top call: all that the program does for its words, over any files, streams and silicon.
 #![tactic(auto)]
 
-mod inputs;
 mod job;
-mod lines;
-mod loading;
-mod report;
-mod running;
-mod schedule_form;
-mod status;
-mod top;
-mod turning;
-
-pub use deck_model::decks::DeckRefusal;
-pub use inputs::Input;
-pub use status::Status;
-pub use top::g5_top;
-
+mod ready;
 #[cfg(test)]
 mod tests;
+mod top;
+
+pub use program_model::inputs::Input;
+pub use program_model::status::Status;
+pub use top::g5_top;

@@ -4,12 +4,14 @@ ghost use Rattle.g5_outside.specs.MemoryShelves.{shelf_view};
 
 mod faults;
 mod groups;
+mod recovery;
 mod refusals;
 mod rows;
 mod runs;
 
 use crate::{Status, g5_top};
 use g5_outside::{MemoryShelf, MemorySink, NamedFile};
+use silicon::ScriptSilicon;
 use std::alloc::Global;
 use std::test::Fail;
 
@@ -99,7 +101,8 @@ fn run(alloc: Global, texts: &[&str], given: &Given<'_>, room: usize) -> Result<
     let mut shelf = shelf_of(alloc, given)?;
     let mut out = MemorySink::new(alloc, Vec::new(alloc), 400)?;
     let mut err = MemorySink::new(alloc, Vec::new(alloc), room)?;
-    let status = g5_top(alloc, &words, &mut shelf, &mut out, &mut err);
+    let mut silicon = ScriptSilicon::new();
+    let status = g5_top(alloc, &words, &mut shelf, &mut out, &mut err, &mut silicon);
     Ok(Left {
         status,
         shelf,

@@ -26,12 +26,12 @@ use Rattle.core_turns.specs.declared.held.Held.TheVariants.{Taken}
 use Rattle.core_turns.specs.declared.outcomes.Outcome.{Outcome}
 use Rattle.core_turns.specs.declared.outcomes.Outcome.TheVariants.{Committed, Failed, Idle, Retried, Spared, Stopped}
 use Rattle.run_model.specs.declared.faults.Cause.TheVariants as causes
-use Rattle.retry_machine.specs.Standing.{StandsByMode}
-use Rattle.retry_machine.specs.Turning.{FollowsAll, core_at, core_there, entry_if, return_told, told_by}
-use Rattle.retry_machine.specs.Turning.{Obeys as MachineObeys}
-use Rattle.retry_machine.specs.declared.machine.Machine.{Machine}
-use Rattle.retry_machine.specs.declared.turns.Turn.{Turn}
-use Rattle.retry_machine.proofs.Obeying.{core_is, waits_for, waits_right}
+use Rattle.g5_machine.specs.Standing.{StandsByMode}
+use Rattle.g5_machine.specs.Turning.{FollowsAll, core_at, core_there, entry_if, return_told, told_by}
+use Rattle.g5_machine.specs.Turning.{Obeys as MachineObeys}
+use Rattle.g5_machine.specs.declared.machine.Machine.{Machine}
+use Rattle.g5_machine.specs.declared.turns.Turn.{Turn}
+use Rattle.g5_machine.proofs.Obeying.{core_is, waits_for, waits_right}
 use Rattle.twin_units.specs.UnitsSeen.{plain}
 use Rattle.run_loop.specs.Engines.{FailsAsStruck, Follows, IsStruck, SoundTurn}
 use Rattle.machine_runs.specs.Views.{Gives, IsReady, Stands, view_of}

@@ -8,7 +8,7 @@ use Rattle.run_model.specs.Runs.{Model, Told}
 use Rattle.run_laws.specs.Bounds.{BoundedCpus}
 use Rattle.silicon.specs.Chip.{Chip}
 use Rattle.twin_units.specs.UnitsSeen.{plain}
-use Rattle.retry_machine.specs.Standing.{StandsFor, StandsByMode}
+use Rattle.g5_machine.specs.Standing.{StandsFor, StandsByMode}
 use Rattle.run_loop.specs.Engines.{EngineView, FailsAsStruck, Follows, Kept, Obeys, SoundTurn}
 use Rattle.machine_runs.specs.declared.twin_machine.TwinMachine.{TwinMachine}
 

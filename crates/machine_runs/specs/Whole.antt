@@ -13,7 +13,7 @@ use Rattle.run_model.specs.Runs.{Told}
 use Rattle.run_model.specs.Texts.{front, whole}
 use Rattle.silicon.specs.Chip.{Chip}
 use Rattle.twin_units.specs.UnitsSeen.{plain}
-use Rattle.retry_machine.specs.Standing.{StandsByMode}
+use Rattle.g5_machine.specs.Standing.{StandsByMode}
 use Rattle.run_loop.specs.Engines.{EngineView}
 use Rattle.run_loop.specs.Making.{Tells}
 use Rattle.machine_runs.specs.declared.twin_machine.TwinMachine.{TwinMachine}

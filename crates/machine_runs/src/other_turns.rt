@@ -4,7 +4,7 @@ ghost use Rattle.esa_model.specs.Changes.{stretches};
 ghost use Rattle.run_model.specs.Runs.{tells_nothing_else};
 ghost use Rattle.run_model.specs.declared.schedules.RunKind.TheVariants as kinds;
 ghost use Rattle.silicon.specs.Chip.{Chip};
-ghost use Rattle.retry_machine.specs.Turning.{entry_if};
+ghost use Rattle.g5_machine.specs.Turning.{entry_if};
 ghost use Rattle.run_loop.specs.Engines.{told_of};
 ghost use Rattle.machine_runs.specs.Views.{Gives, IsReady, view_of};
 

@@ -2,7 +2,7 @@
 ghost use Rattle.std.specs.Prelude.{◌≡◌, None, true};
 ghost use Rattle.twin_units.specs.UnitsSeen.{plain};
 
-use retry_machine::Machine;
+use g5_machine::Machine;
 use run_loop::{Engine, Turn};
 use run_model::logs::Config;
 use run_model::schedules::RunKind;

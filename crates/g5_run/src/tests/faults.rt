@@ -1,5 +1,5 @@
-// Writes that fail, and turns that are not built.
-use super::{DECK, Given, HEAD, TRACE, WORDS, deck_of, run};
+// Writes that fail.
+use super::{DECK, Given, HEAD, TRACE, WORDS, run};
 use crate::Status;
 use g5_outside::FileNo;
 use std::test::Fail;

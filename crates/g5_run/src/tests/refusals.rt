@@ -5,8 +5,28 @@ use std::test::Fail;
 
 #[test]
 fn words_and_files(rt: HostRuntime) -> Result<(), Fail> {
-    let cases: [(&[&str], &[u64], u8, &[u8]); 7] = [
+    let cases: [(&[&str], &[u64], u8, &[u8]); 12] = [
+        (&[], &[], 2, b"usage\n"),
         (&["run", "D", "C"], &[], 2, b"usage\n"),
+        (&["audit", "L"], &[], 2, b"usage\n"),
+        (
+            &["run", "--cpus=9", "D", "C", "S", "F", "L", "T"],
+            &[],
+            2,
+            b"usage\n",
+        ),
+        (
+            &["run", "--cpus=01", "D", "C", "S", "F", "L", "T"],
+            &[],
+            2,
+            b"usage\n",
+        ),
+        (
+            &["run", "--storage=100", "D", "C", "S", "F", "L", "T"],
+            &[],
+            2,
+            b"usage\n",
+        ),
         (&["run", "D", "C", "S", "F", "L", "L"], &[], 2, b"usage\n"),
         (&["run", "D", "C", "S", "-F", "L", "T"], &[], 2, b"usage\n"),
         (
@@ -71,13 +91,63 @@ fn cut_card(rt: HostRuntime) -> Result<(), Fail> {
     Ok(())
 }
 
+// The first refusal is that of the deck, then that of the schedule, then that of the script.
 #[test]
-fn decks_and_schedules(rt: HostRuntime) -> Result<(), Fail> {
-    let cases: [(&[u8], &[u8], &[u8], u8, &[u8]); 4] = [
-        (&DECK[80..], b"0*10", b"", 6, b"deck refused: UnknownId 1\n"),
-        (&DECK, b"0 1", b"", 11, b"not yet\n"),
-        (&DECK, b"0*1000001\n", b"", 11, b"not yet\n"),
-        (&DECK, b"0*10", b"\n", 11, b"not yet\n"),
+fn decks_schedules_and_scripts(rt: HostRuntime) -> Result<(), Fail> {
+    let twice: &[u8] = b"F 0 1 0\nF 0 1 0\n";
+    let cases: [(&[u8], &[u8], &[u8], u8, &[u8]); 10] = [
+        (
+            &DECK[80..],
+            b"0 x",
+            twice,
+            6,
+            b"deck refused: UnknownId 1\n",
+        ),
+        (&DECK, b"0 x", twice, 7, b"schedule refused: BadWord 2\n"),
+        (&DECK, b"0 1", b"", 7, b"schedule refused: BadCpu 2\n"),
+        (
+            &DECK,
+            b"0*1000000 0",
+            b"",
+            7,
+            b"schedule refused: TooLong 2\n",
+        ),
+        (
+            &DECK,
+            b"0*1000001\n",
+            b"",
+            7,
+            b"schedule refused: TooLong 1\n",
+        ),
+        (
+            &DECK,
+            b"0*10",
+            twice,
+            8,
+            b"script refused: TwoAtOneAttempt 2\n",
+        ),
+        (
+            &DECK,
+            b"0*10",
+            b"W 0 1 40 0",
+            8,
+            b"script refused: BadWord 1\n",
+        ),
+        (
+            &DECK,
+            b"0*10",
+            b"W 0 1 36 72",
+            8,
+            b"script refused: BadBit 1\n",
+        ),
+        (
+            &DECK,
+            b"0*10",
+            b"U 16 1 A 0 1",
+            8,
+            b"script refused: BadCore 1\n",
+        ),
+        (&DECK, b"0*10", b"\nX", 8, b"script refused: BadLine 2\n"),
     ];
     for (deck, schedule, script, number, line) in cases {
         let given = Given {
@@ -95,26 +165,44 @@ fn decks_and_schedules(rt: HostRuntime) -> Result<(), Fail> {
     Ok(())
 }
 
-// The deck's limit comes before the console's, and this before a file that is missing behind it.
+// The limits, in the order of the inputs; each comes before a file that is missing behind it.
 #[test]
 fn too_large(rt: HostRuntime) -> Result<(), Fail> {
     let alloc = rt.alloc();
     let deck = vec![in alloc; 0; 16_000_001]?;
-    let console = vec![in alloc; 0; 1_048_577]?;
+    let long = vec![in alloc; 32; 1_048_577]?;
     let missing: &[&str] = &["run", "D", "C", "noschedule", "F", "L", "T"];
-    let cases: [(&[&str], &[u8], &[u8], u8, &[u8]); 5] = [
-        (WORDS, &deck, &console, 9, b"too large: D\n"),
-        (missing, &DECK, &console, 9, b"too large: C\n"),
-        (WORDS, &DECK[..81], &console, 9, b"too large: C\n"),
-        (missing, &DECK, &console[1..], 3, b"no file: noschedule\n"),
-        (WORDS, &deck[1..], b"", 6, b"deck refused: BadFirstByte 1\n"),
+    let cases: [(&[&str], &[u8], &[u8], &[u8], &[u8], u8, &[u8]); 7] = [
+        (WORDS, &deck, &long, b"0*1", b"", 9, b"too large: D\n"),
+        (missing, &DECK, &long, b"0*1", b"", 9, b"too large: C\n"),
+        (WORDS, &DECK[..81], &long, b"0*1", b"", 9, b"too large: C\n"),
+        (
+            missing,
+            &DECK,
+            &long[1..],
+            b"0*1",
+            b"",
+            3,
+            b"no file: noschedule\n",
+        ),
+        (WORDS, &DECK, b"", &long, &long, 9, b"too large: S\n"),
+        (WORDS, &DECK[..81], b"", b"0 x", &long, 9, b"too large: F\n"),
+        (
+            WORDS,
+            &deck[1..],
+            b"",
+            b"0*1",
+            b"",
+            6,
+            b"deck refused: BadFirstByte 1\n",
+        ),
     ];
-    for (texts, deck, console, number, line) in cases {
+    for (texts, deck, console, schedule, script, number, line) in cases {
         let given = Given {
             deck,
             console,
-            schedule: b"0*1",
-            script: b"",
+            schedule,
+            script,
             failing: &[],
         };
         let left = run(alloc, texts, &given, 400)?;

@@ -1,11 +1,37 @@
-use Rattle.g5_run.specs.Words.{job_names, words_of}
+use Rattle.std.specs.Prelude.{map, string_bytes}
+use Rattle.g5_run.specs.Asked.{asked}
 use Rattle.g5_run.proofs.Consequences.{ends_untouched, ends_complete}
+use Rattle.g5_run.proofs.Headed.{ends_headline, ends_same}
 use Rattle.g5_run.proofs.top.g5_top.Goals as goal
 
 pub returns-clause-untouched : goal.returns-clause-untouched
-returns-clause-untouched g c = λ before.
-    ends_untouched (job_names (words_of c.args.words.now)) (g.F.Shelf.seen c.args.shelf.now) (g.F.Shelf.seen c.obey.new.shelf) (g.O.Sink.seen c.args.out.now) (g.O.Sink.seen c.obey.new.out) (g.E.Sink.seen c.args.err.now) (g.E.Sink.seen c.obey.new.err) c.obey.result c.obey.ensures before
+returns-clause-untouched g c = λ early.
+    ends_untouched (asked (map string_bytes c.args.words.now)) (g.F.Shelf.seen c.args.shelf.now)
+    (g.F.Shelf.seen c.obey.new.shelf) (g.O.Sink.seen c.args.out.now)
+    (g.O.Sink.seen c.obey.new.out) (g.E.Sink.seen c.args.err.now)
+    (g.E.Sink.seen c.obey.new.err) (g.Z.Silicon.seen c.obey.new.silicon) c.obey.result
+    c.obey.ensures early
 
 pub returns-clause-complete : goal.returns-clause-complete
-returns-clause-complete g c = λ names turns is accepted fine.
-    ends_complete (job_names (words_of c.args.words.now)) names turns (g.F.Shelf.seen c.args.shelf.now) (g.F.Shelf.seen c.obey.new.shelf) (g.O.Sink.seen c.args.out.now) (g.O.Sink.seen c.obey.new.out) (g.E.Sink.seen c.args.err.now) (g.E.Sink.seen c.obey.new.err) c.obey.result c.obey.ensures is accepted fine
+returns-clause-complete g c = λ names config j is ok nf.
+    ends_complete (asked (map string_bytes c.args.words.now)) names config j
+    (g.F.Shelf.seen c.args.shelf.now) (g.F.Shelf.seen c.obey.new.shelf)
+    (g.O.Sink.seen c.args.out.now) (g.O.Sink.seen c.obey.new.out)
+    (g.E.Sink.seen c.args.err.now) (g.E.Sink.seen c.obey.new.err)
+    (g.Z.Silicon.seen c.obey.new.silicon) c.obey.result c.obey.ensures is ok nf
+
+pub returns-clause-headline : goal.returns-clause-headline
+returns-clause-headline g c = λ names config j is ok premise made.
+    ends_headline (asked (map string_bytes c.args.words.now)) names config j
+    (g.F.Shelf.seen c.args.shelf.now) (g.F.Shelf.seen c.obey.new.shelf)
+    (g.O.Sink.seen c.args.out.now) (g.O.Sink.seen c.obey.new.out)
+    (g.E.Sink.seen c.args.err.now) (g.E.Sink.seen c.obey.new.err)
+    (g.Z.Silicon.seen c.obey.new.silicon) c.obey.result c.obey.ensures is ok premise made
+
+pub returns-clause-same : goal.returns-clause-same
+returns-clause-same g c = λ names config j is ok premise done.
+    ends_same (asked (map string_bytes c.args.words.now)) names config j
+    (g.F.Shelf.seen c.args.shelf.now) (g.F.Shelf.seen c.obey.new.shelf)
+    (g.O.Sink.seen c.args.out.now) (g.O.Sink.seen c.obey.new.out)
+    (g.E.Sink.seen c.args.err.now) (g.E.Sink.seen c.obey.new.err)
+    (g.Z.Silicon.seen c.obey.new.silicon) c.obey.result c.obey.ensures is ok premise done

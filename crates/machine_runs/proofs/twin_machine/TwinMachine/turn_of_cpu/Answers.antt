@@ -1,7 +1,7 @@
 -- What the machine says of a turn of a CPU.
 use Rattle.std.proofs.Common.{◌-◌, ◌^◌, arith, refl}
 use Rattle.run_model.specs.declared.schedules.RunKind.TheVariants.{Turns}
-use Rattle.retry_machine.specs.Turning.{told_by}
+use Rattle.g5_machine.specs.Turning.{told_by}
 use Rattle.machine_runs.specs.declared.twin_machine.TwinMachine.{TwinMachine}
 use Rattle.machine_runs.proofs.Giving.{begun_small, cpu_says, cpu_struck, gives_by}
 use Rattle.machine_runs.proofs.twin_machine.TwinMachine.turn_of_cpu.Goals as goal

@@ -1,6 +1,6 @@
 -- What the machine says of its interrupt key.
 use Rattle.run_model.specs.declared.schedules.RunKind.TheVariants.{Key}
-use Rattle.retry_machine.specs.Turning.{key_told}
+use Rattle.g5_machine.specs.Turning.{key_told}
 use Rattle.machine_runs.specs.declared.twin_machine.TwinMachine.{TwinMachine}
 use Rattle.machine_runs.proofs.Giving.{gives_by, none_struck, plain_says}
 use Rattle.machine_runs.proofs.twin_machine.TwinMachine.turn_of_key.Goals as goal

@@ -1,6 +1,6 @@
 -- What the machine says of a core that is returned.
 use Rattle.run_model.specs.declared.schedules.RunKind.TheVariants.{Return}
-use Rattle.retry_machine.specs.Turning.{return_told}
+use Rattle.g5_machine.specs.Turning.{return_told}
 use Rattle.machine_runs.specs.declared.twin_machine.TwinMachine.{TwinMachine}
 use Rattle.machine_runs.proofs.Giving.{gives_by, plain_says, return_struck}
 use Rattle.machine_runs.proofs.twin_machine.TwinMachine.turn_of_return.Goals as goal

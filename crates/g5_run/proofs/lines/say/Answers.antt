@@ -1,5 +1,0 @@
-use Rattle.g5_run.proofs.Saying.{says_of}
-use Rattle.g5_run.proofs.lines.say.Goals as goal
-
-pub returns : goal.returns
-returns g c = says_of c.args.text.now _ _ c.add_to_sink.result c.add_to_sink.ensures

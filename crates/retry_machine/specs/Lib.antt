@@ -1,5 +1,0 @@
-pub mod Counts
-pub mod Fits
-pub mod Standing
-pub mod Starting
-pub mod Turning
