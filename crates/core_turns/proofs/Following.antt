@@ -1,5 +1,5 @@
 -- A turn of a CPU tells and leaves what the definitions say, where the script is within the premise.
-use Rattle.std.proofs.Common.{◌≡◌, ℕ, ◌<◌, Bool, false, List, Some, refl, sym, ap, ◌∙◌, subst, arith}
+use Rattle.std.proofs.Common.{◌≡◌, ℕ, ◌+◌, ◌<◌, Bool, false, List, Some, refl, sym, ap, ◌∙◌, subst, arith}
 use Rattle.std.specs.Prelude.{⊤, IsTrue}
 use Rattle.std.proofs.lemmas.Bool.{true≢false}
 use Rattle.esa_model.specs.Bus.{cpu_no}
@@ -143,23 +143,32 @@ committed_event : (o : Outcome) (i : ℕ) (d : Did) → event_of i o ≡ d.event
     → o ≡ outcome.Committed → d.event ≡ Some (Commit (cpu_no i))
 committed_event o i d e is = sym e ∙ ap (event_of i) is
 
+-- an attempt was begun
+pub within_begun : (c : Config) (n : ℕ) (cpu : CpuNo) (h : Held) (z : Chip) (bytes : List ℕ)
+    (seen : Side) (p : CorePool) (x : Model) → IsBefore c n cpu h z bytes seen p x
+    → is_lost (x.fate.cores.mode cpu.0) ≡ false
+    → (bits_then z c x cpu.0).begun (x.fate.cores.core cpu.0)
+    ≡ x.fate.begun (x.fate.cores.core cpu.0) + 1
+    → WithinAt z.lines (core_of h) (z.begun (core_of h))
+unfolding turned
+within_begun c n cpu h z bytes seen p x b live more =
+    let k = x.fate.cores.core cpu.0 in
+    let core = core_held h x.fate.cores cpu.0 b.at.held b.there in
+    let was = b.begun k (live_small h x.fate.cores cpu.0 b.at.held b.there live) in
+    let lt : x.fate.begun k < (bits_then z c x cpu.0).begun k = omega (arith, more) in
+    let here : WithinAt z.lines k (x.fate.begun k) = b.sound k (x.fate.begun k) lt in
+    subst (λ q. WithinAt z.lines q (z.begun q)) (sym core)
+    (subst (λ q. WithinAt z.lines k q) (sym was) here)
+
 within_of : (c : Config) (n : ℕ) (cpu : CpuNo) (h : Held) (z : Chip) (bytes : List ℕ)
     (seen : Side) (p : CorePool) (x : Model) → IsBefore c n cpu h z bytes seen p x
     → (did z c x cpu.0).event ≡ Some (Commit (cpu_no cpu.0))
     → WithinAt z.lines (core_of h) (z.begun (core_of h))
-unfolding turned
 within_of c n cpu h z bytes seen p x b is =
     let i = cpu.0 in
-    let k = x.fate.cores.core i in
-    let core = core_held h x.fate.cores i b.at.held b.there in
     let runs = commit_runs c.threshold x.fate.cores i (met z.lines (sight x.machine i) x.fate i) is in
-    let live : is_lost (x.fate.cores.mode i) ≡ false = ap is_lost runs.0 in
-    let more = commit_begun z.lines c.threshold (sight x.machine i) x.fate i is in
-    let was = b.begun k (live_small h x.fate.cores i b.at.held b.there live) in
-    let lt : x.fate.begun k < (bits_then z c x i).begun k = omega (arith, more) in
-    let here : WithinAt z.lines k (x.fate.begun k) = b.sound k (x.fate.begun k) lt in
-    subst (λ q. WithinAt z.lines q (z.begun q)) (sym core)
-    (subst (λ q. WithinAt z.lines k q) (sym was) here)
+    within_begun c n cpu h z bytes seen p x b (ap is_lost runs.0)
+    (commit_begun z.lines c.threshold (sight x.machine i) x.fate i is)
 
 pub sure_by : (o : Outcome) (a b : Bool) (z : Chip) (k : ℕ) → IsTrue a → IsTrue b
     → (o ≡ outcome.Committed → WithinAt z.lines k (z.begun k)) → IsSureCommit o a b z k

@@ -11,6 +11,8 @@ pub mod Meets
 pub mod Commits
 pub mod Following
 pub mod Followed
+pub mod Tried
+pub mod Handed
 pub mod Sums
 pub mod Buses
 pub mod Others

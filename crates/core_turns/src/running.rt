@@ -3,7 +3,7 @@ ghost use Rattle.std.specs.Prelude.{◌≡◌, ◌+◌, ◌-◌, ◌^◌, ◌<�
 ghost use Rattle.esa_model.specs.Changes.{stretches};
 ghost use Rattle.core_turns.specs.ChipAfter.{Rises, TurnChanges};
 ghost use Rattle.core_turns.specs.Giving.{IsSureCommit, StaysUnlessCommitted, TurnGives};
-ghost use Rattle.core_turns.specs.Handing.{Finds, HandsIn, calls_of};
+ghost use Rattle.core_turns.specs.Handing.{AnswersDue, Finds, HandsIn, calls_of};
 ghost use Rattle.core_turns.specs.Held.{IsThere, HoldsRegisters};
 ghost use Rattle.core_turns.specs.Journals.{IsBlank};
 ghost use Rattle.core_turns.specs.Meeting.{TurnGoes, next_cause, why_met};
@@ -61,6 +61,10 @@ pub fn turn_running<Z: Silicon, P: ResultUnit, Q: ResultUnit>(
         ≡ on k.core.0 n + in_pool n pool.old }
     ensures tape { HandsIn (holding.Running k) (Z.seen z.old) cpu.0 memory.old.bytes side.old
         (P.seen a.new) (Q.seen b.new) result.outcome (Z.tape z.old) (Z.tape z.new) }
+    ensures due_a { IsTrue (P.seen a.old).exact → AnswersDue (holding.Running k) cpu.0
+        memory.old.bytes side.old result.outcome (P.seen a.new) }
+    ensures due_b { IsTrue (Q.seen b.old).exact → AnswersDue (holding.Running k) cpu.0
+        memory.old.bytes side.old result.outcome (Q.seen b.new) }
     ensures calls_a { (P.seen a.new).calls ≡ (P.seen a.old).calls + calls_of result.outcome }
     ensures calls_b { (Q.seen b.new).calls ≡ (Q.seen b.old).calls + calls_of result.outcome }
     ensures kind_a { (P.seen a.new).exact ≡ (P.seen a.old).exact }

@@ -7,7 +7,8 @@ ghost use Rattle.run_model.specs.declared.schedules.RunKind.TheVariants as kinds
 ghost use Rattle.core_turns.specs.ChipAfter.{Rises, TurnChanges};
 ghost use Rattle.core_turns.specs.Following.{Followed, IsBefore};
 ghost use Rattle.core_turns.specs.Giving.{IsSureCommit, StaysUnlessCommitted, TurnGives};
-ghost use Rattle.core_turns.specs.Handing.{Finds, HandsIn, calls_of};
+ghost use Rattle.core_turns.specs.Handing.{AnswersDue, Finds, HandsIn, calls_of, hands};
+ghost use Rattle.silicon.specs.Tape.{tells};
 ghost use Rattle.core_turns.specs.Held.{IsThere, HoldsRegisters, core_of};
 ghost use Rattle.core_turns.specs.Journals.{IsBlank};
 ghost use Rattle.core_turns.specs.Meeting.{TurnGoes, next_cause, why_met};
@@ -62,6 +63,10 @@ fn turn_in_mode<Z: Silicon, P: ResultUnit, Q: ResultUnit>(
         ≡ with_cpu n held + in_pool n pool.old }
     ensures tape { HandsIn held (Z.seen z.old) cpu.0 memory.old.bytes side.old
         (P.seen a.new) (Q.seen b.new) result.outcome (Z.tape z.old) (Z.tape z.new) }
+    ensures due_a { IsTrue (P.seen a.old).exact → AnswersDue held cpu.0 memory.old.bytes side.old
+        result.outcome (P.seen a.new) }
+    ensures due_b { IsTrue (Q.seen b.old).exact → AnswersDue held cpu.0 memory.old.bytes side.old
+        result.outcome (Q.seen b.new) }
     ensures calls_a { (P.seen a.new).calls ≡ (P.seen a.old).calls + calls_of result.outcome }
     ensures calls_b { (Q.seen b.new).calls ≡ (Q.seen b.old).calls + calls_of result.outcome }
     ensures kind_a { (P.seen a.new).exact ≡ (P.seen a.old).exact }
@@ -118,6 +123,10 @@ pub fn turn_held<Z: Silicon, P: ResultUnit, Q: ResultUnit>(
         ≡ with_cpu n held + in_pool n pool.old }
     ensures tape { HandsIn held (Z.seen z.old) cpu.0 memory.old.bytes side.old
         (P.seen a.new) (Q.seen b.new) result.outcome (Z.tape z.old) (Z.tape z.new) }
+    ensures due_a { IsTrue (P.seen a.old).exact → AnswersDue held cpu.0 memory.old.bytes side.old
+        result.outcome (P.seen a.new) }
+    ensures due_b { IsTrue (Q.seen b.old).exact → AnswersDue held cpu.0 memory.old.bytes side.old
+        result.outcome (Q.seen b.new) }
     ensures calls_a { (P.seen a.new).calls ≡ (P.seen a.old).calls + calls_of result.outcome }
     ensures calls_b { (Q.seen b.new).calls ≡ (Q.seen b.old).calls + calls_of result.outcome }
     ensures kind_a { (P.seen a.new).exact ≡ (P.seen a.old).exact }
@@ -132,6 +141,10 @@ pub fn turn_held<Z: Silicon, P: ResultUnit, Q: ResultUnit>(
         → Followed c cpu (Z.seen z.old) (Z.seen z.new) memory.new.bytes side.new pool.new
         journal.new.entries.items result x
         (turned (Z.seen z.old).lines c x (kinds.Turns cpu)) }
+    ensures hands { IsTrue (P.seen a.old).exact → IsTrue (Q.seen b.old).exact
+        → (c : Config) (x : Model) → c.threshold ≡ threshold
+        → IsBefore c journal.old.turn cpu held (Z.seen z.old) memory.old.bytes side.old pool.old x
+        → Z.tape z.new ≡ tells (Z.tape z.old) (hands (Z.seen z.old).lines x (kinds.Turns cpu)) }
 {
     turn_in_mode(held, cpu, threshold, memory, side, pool, z, a, b, journal)
 }

@@ -7,5 +7,6 @@ pub mod ReadLines
 pub mod ReadRuns
 pub mod Reading
 pub mod Runs
+pub mod Sizes
 pub mod Splits
 pub mod TextCards

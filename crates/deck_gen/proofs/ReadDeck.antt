@@ -26,11 +26,11 @@ use Rattle.deck_gen.proofs.Lengths.{length-text}
 abbrev one : Card → List ℕ
 one c = card_bytes c blank_sequence
 
-record Reads (c : Card) : Type 0 where
+pub record Reads (c : Card) : Type 0 where
   long : length (one c) ≡ 80
   back : card_of (one c) ≡ Ok c
 
-abbrev AllRead : List Card → Type 0
+abbrev pub AllRead : List Card → Type 0
 AllRead [] = Unit {0}
 AllRead (c ∷ cs) = Reads c × AllRead cs
 
@@ -62,7 +62,7 @@ cards_back (c ∷ cs) n m h =
     (behind (one c) rest r.long)
     ∙ ap (with_first first) (cards_back cs (n + 1) owner h.1)
 
-length-cards : (cs : List Card) → AllRead cs → length (bytes_of_cards cs) ≡ 80 * length cs
+pub length-cards : (cs : List Card) → AllRead cs → length (bytes_of_cards cs) ≡ 80 * length cs
 length-cards [] h = refl
 length-cards (c ∷ cs) h =
     let r = h.0 in
@@ -143,7 +143,7 @@ both_read (c ∷ cs) ds h k = (h.0, both_read cs ds h.1 k)
 abbrev last_two : List Card
 last_two = rld (restart_address ∷ []) ∷ End None ∷ []
 
-all_read : (x : ℕ) → AllRead (cards x)
+pub all_read : (x : ℕ) → AllRead (cards x)
 unfolding cards
 all_read x =
     both_read (esd 1 (gen_section ∷ []) ∷ text_cards 11 0 (text x)) last_two

@@ -112,7 +112,7 @@ attempts_avoid :
 attempts_avoid p None s h = (s.star, tt)
 attempts_avoid p (Some n) s h = avoids_decimal p n s.digits (omega (arith, h.1))
 
-few_positions : (w : ℕ) → width w ≤ 72
+pub few_positions : (w : ℕ) → width w ≤ 72
 unfolding width
 few_positions w = grind (arith, nat_tests)
 

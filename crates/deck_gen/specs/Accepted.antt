@@ -1,5 +1,5 @@
 -- What the generated texts say, and that they are accepted. Source: choice of this project.
-use Rattle.std.specs.Prelude.{ℕ, ◌≡◌, List, Ok, IsOkAnd}
+use Rattle.std.specs.Prelude.{ℕ, ◌≡◌, ◌≤◌, List, length, Ok, IsOkAnd}
 use Rattle.deck_model.specs.Image.{Image, image}
 use Rattle.run_model.specs.Premise.{Within}
 use Rattle.run_model.specs.Schedule.{schedule, turns_of}
@@ -8,6 +8,8 @@ use Rattle.run_model.specs.declared.schedules.Run.{Run}
 use Rattle.program_model.specs.Accepted.{Job, job, generated_bytes}
 use Rattle.program_model.specs.Draws.{after}
 use Rattle.program_model.specs.GeneratedDeck.{deck_draws}
+use Rattle.program_model.specs.Inputs.{limit}
+use Rattle.program_model.specs.declared.inputs.Input.TheVariants.{Deck, Schedule, Script}
 use Rattle.program_model.specs.Generator.{schedule_runs, generated_strikes, generated_config}
 
 abbrev pub generated_runs : ℕ → ℕ → List Run
@@ -26,6 +28,12 @@ pub record IsScript (number turns : ℕ) (text : List ℕ) : Type 0 where
 -- it is a deck that has its image in a storage of 128 KiB, entered at X'10000'
 abbrev pub IsDeck : List ℕ → Type 0
 IsDeck text = IsOkAnd (image 131072 text) (λ (i : Image). i.entry ≡ 65536)
+
+-- each text is within the limit of its input
+pub record AreInLimits (deck schedule script : List ℕ) : Type 0 where
+  pub cards : length deck ≤ limit Deck
+  pub words : length schedule ≤ limit Schedule
+  pub lines : length script ≤ limit Script
 
 -- what the inputs of a run give
 pub record Gives (number turns : ℕ) (j : Job) : Type 0 where

@@ -3,7 +3,7 @@
 
 ghost use Rattle.std.specs.Prelude.{◌≡◌, ◌≤◌, IfOk};
 ghost use Rattle.program_model.specs.Generator.{generated};
-ghost use Rattle.deck_gen.specs.Accepted.{IsDeck, IsInput, IsSchedule, IsScript};
+ghost use Rattle.deck_gen.specs.Accepted.{AreInLimits, IsDeck, IsInput, IsSchedule, IsScript};
 
 use crate::NoMemory;
 use crate::cards::deck_of;
@@ -41,7 +41,7 @@ fn draw_texts(alloc: Global, number: u32, turns: u32) -> Result<Generated, NoMem
 
 /// What is drawn from a number, for 1 to 1,000,000 turns. The deck has an image in a storage of
 /// 128 KiB and is entered at X'10000', the schedule is one of so many turns for 8 CPUs, and the
-/// script is within the premise.
+/// script is within the premise. Each text is within the limit of its input.
 pub fn generate(alloc: Global, number: u32, turns: u32) -> Result<Generated, NoMemory>
     requires some { 1 ≤ turns }
     requires few { turns ≤ 1000000 }
@@ -51,6 +51,7 @@ pub fn generate(alloc: Global, number: u32, turns: u32) -> Result<Generated, NoM
     ensures image { IfOk result (λ g. IsDeck g.deck.items) }
     ensures turns { IfOk result (λ g. IsSchedule number turns g.schedule.items) }
     ensures strikes { IfOk result (λ g. IsScript number turns g.script.items) }
+    ensures limits { IfOk result (λ g. AreInLimits g.deck.items g.schedule.items g.script.items) }
     ensures input { IsInput number turns }
 {
     let texts = draw_texts(alloc, number, turns)?;

@@ -1,5 +1,6 @@
 -- Strikes in their ranges, in another order, between two places, and some of them.
-use Rattle.std.proofs.Common.{ℕ, zero, suc, Bool, true, false, cond, List, [], ◌∷◌, ◌++◌, take, drop, flat_map, All, IsPermutation, arith}
+use Rattle.std.proofs.Common.{ℕ, zero, suc, Bool, true, false, cond, List, [], ◌∷◌, ◌++◌, take, drop, filter, flat_map, All, IsPermutation, arith}
+use Rattle.std.proofs.lemmas.List.Elements.{All-filter}
 use Rattle.std.proofs.lemmas.List.Sorted.{All-permutation}
 use Rattle.run_model.specs.declared.faults.Strike.{Strike}
 use Rattle.run_model.specs.Script.{InRange, AllInRange}
@@ -38,3 +39,10 @@ ranges_if s ss false r f = (r, f)
 pub ranges_lasting : (ls : List Strike) → AllInRange ls → AllInRange (flat_map if_lasting ls)
 ranges_lasting [] f = tt
 ranges_lasting (s ∷ ss) f = ranges_if s (flat_map if_lasting ss) (is_brief s) f.0 (ranges_lasting ss f.1)
+
+pub ranges_append : (xs ys : List Strike) → AllInRange xs → AllInRange ys → AllInRange (xs ++ ys)
+ranges_append [] ys f g = g
+ranges_append (x ∷ xs) ys f g = (f.0, ranges_append xs ys f.1 g)
+
+pub ranges_filter : (p : Strike → Bool) (xs : List Strike) → AllInRange xs → AllInRange (filter p xs)
+ranges_filter p xs f = all_ranges (filter p xs) (All-filter p InRange xs (ranges_all xs f))

@@ -4,6 +4,7 @@ pub mod Cuts
 pub mod Forms
 pub mod Gathering
 pub mod Lasting
+pub mod Live
 pub mod Parity
 pub mod Stable
 pub mod Sums

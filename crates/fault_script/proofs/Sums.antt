@@ -22,19 +22,19 @@ unfolding total
 filter_by op e f s xs ys true unit none h = ap (op (f s)) h
 filter_by op e f s xs ys false unit none h = h ∙ sym (unit (total op e f xs)) ∙ ap (λ m. op m (total op e f xs)) (sym (none refl))
 
-total_filter : {M : Type 0} (op : M → M → M) (e : M) (f : Strike → M) (p : Strike → Bool) (xs : List Strike) → ((x : M) → op e x ≡ x) → ((s : Strike) → p s ≡ false → f s ≡ e) → total op e f (filter p xs) ≡ total op e f xs
+pub total_filter : {M : Type 0} (op : M → M → M) (e : M) (f : Strike → M) (p : Strike → Bool) (xs : List Strike) → ((x : M) → op e x ≡ x) → ((s : Strike) → p s ≡ false → f s ≡ e) → total op e f (filter p xs) ≡ total op e f xs
 unfolding total
 total_filter op e f p [] unit none = refl
 total_filter op e f p (s ∷ xs) unit none = filter_by op e f s xs (filter p xs) (p s) unit (none s) (total_filter op e f p xs unit none)
 
-total_drop : {M : Type 0} (op : M → M → M) (e : M) (f : Strike → M) (xs : List Strike) (n : ℕ) → ((x : M) → op e x ≡ x) → ((k : ℕ) (d : Strike) → k < n → k < length xs → f (get_or xs k d) ≡ e) → total op e f (drop n xs) ≡ total op e f xs
+pub total_drop : {M : Type 0} (op : M → M → M) (e : M) (f : Strike → M) (xs : List Strike) (n : ℕ) → ((x : M) → op e x ≡ x) → ((k : ℕ) (d : Strike) → k < n → k < length xs → f (get_or xs k d) ≡ e) → total op e f (drop n xs) ≡ total op e f xs
 unfolding total
 total_drop op e f xs zero unit none = refl
 total_drop op e f [] (suc n) unit none = refl
 total_drop op e f (s ∷ xs) (suc n) unit none =
     total_drop op e f xs n unit (λ k d l i. none (suc k) d (omega arith) (omega arith)) ∙ sym (unit (total op e f xs)) ∙ ap (λ m. op m (total op e f xs)) (sym (none zero s (omega arith) (omega arith)))
 
-total_none : {M : Type 0} (op : M → M → M) (e : M) (f : Strike → M) (xs : List Strike) → ((x : M) → op e x ≡ x) → ((k : ℕ) (d : Strike) → k < length xs → f (get_or xs k d) ≡ e) → total op e f xs ≡ e
+pub total_none : {M : Type 0} (op : M → M → M) (e : M) (f : Strike → M) (xs : List Strike) → ((x : M) → op e x ≡ x) → ((k : ℕ) (d : Strike) → k < length xs → f (get_or xs k d) ≡ e) → total op e f xs ≡ e
 unfolding total
 total_none op e f [] unit none = refl
 total_none op e f (s ∷ xs) unit none = ap (λ m. op m (total op e f xs)) (none zero s (omega arith)) ∙ unit (total op e f xs) ∙ total_none op e f xs unit (λ k d i. none (suc k) d (omega arith))

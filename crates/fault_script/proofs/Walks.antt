@@ -1,19 +1,19 @@
 -- How many strikes of a sorted list are below a key, and where the others begin.
 use Rattle.std.proofs.Common.{◌≡◌, ℕ, zero, suc, ◌+◌, ◌-◌, ◌<◌, ◌≤◌, ◌≢◌, true, false, cond, ltb, List, [], ◌∷◌, length, take, drop, get_or, refl, sym, ap, subst, ◌∙◌, arith, inl, inr, flat_map}
 use Rattle.std.specs.List.Sorted.{IsNonDecreasingBy}
-use Rattle.std.proofs.lemmas.List.Sums.{sum_by-cons, count_by-le-length}
+use Rattle.std.proofs.lemmas.List.Sums.{sum_by-cons, sum_by-le-sum_by, count_by-le-length}
 use Rattle.std.proofs.lemmas.List.Sorted.{sum_by-IsPermutation, length_permutation}
 use Rattle.std.proofs.lemmas.Bool.{cases_lt}
+use Rattle.std.proofs.lemmas.List.{length-take-le}
 use Rattle.std.proofs.lemmas.Bool.Decides.{nat_tests}
 use Rattle.run_model.specs.declared.faults.Strike.{Strike}
 use Rattle.run_model.specs.Script.{AllInRange}
 use Rattle.fault_script.specs.Index.{key, key_of, if_lasting, IsFirst, IsIndex}
-use Rattle.fault_script.specs.Totals.{IsPart, IsLastingPart}
-use Rattle.fault_script.specs.Walk.{count_below, before, IsAt}
-use Rattle.fault_script.specs.declared.walking.Cursor.{Cursor}
+use Rattle.fault_script.specs.Totals.{IsPart, IsNextPart}
+use Rattle.fault_script.specs.Walk.{count_below, before}
 use Rattle.fault_script.proofs.Buckets.{bucket_between, first_up, first_down}
-use Rattle.fault_script.proofs.Lasting.{lasting_found}
-use Rattle.fault_script.proofs.Sums.{part_found}
+use Rattle.fault_script.proofs.Lasting.{next_found}
+use Rattle.fault_script.proofs.Sums.{part_found, length_drop}
 
 less : (a q : ℕ) → a < q → ltb a q ≡ true
 less a q h = grind (arith, nat_tests)
@@ -135,60 +135,21 @@ nothing_past q xs from rises first k d l i =
     let a = f.below k d (omega arith) i in
     omega (arith, a)
 
--- ---- the places in a script's order
-same_count : (ls xs : List Strike) (q : ℕ) → IsIndex ls xs → count_below q xs ≡ count_below q ls
+-- ---- the places in the orders
+pub same_count : (ls xs : List Strike) (q : ℕ) → IsIndex ls xs → count_below q xs ≡ count_below q ls
 same_count ls xs q h = sum_by-IsPermutation (λ (y : Strike). cond (ltb (key_of y) q) 1 0) ls xs h.same
 
-pub at_start : (ls xs ms : List Strike) (c p q : ℕ) → IsIndex ls xs → IsIndex (flat_map if_lasting ls) ms → IsFirst (key c 0) xs p p → p ≤ length xs → IsFirst (key c 0) ms q q → q ≤ length ms → IsAt ls c 0 (record { low = p; high = p; lasting_low = q; lasting_high = q })
-unfolding before
-at_start ls xs ms c p q h j f l g m =
-    let e : p ≡ count_below (key c 0) ls = count_first (key c 0) xs p f l ∙ same_count ls xs (key c 0) h in
-    let d : q ≡ count_below (key c 0) (flat_map if_lasting ls) = count_first (key c 0) ms q g m ∙ same_count (flat_map if_lasting ls) ms (key c 0) j in
-    let same = length_permutation ls xs h.same in
-    let lasting = length_permutation (flat_map if_lasting ls) ms j.same in
-    record {
-      low = e;
-      high = e;
-      order = omega arith;
-      inside = omega (arith, l, same);
-      lasting_low = d;
-      lasting_high = d;
-      lasting_order = omega arith;
-      lasting_inside = omega (arith, m, lasting);
-    }
+pub count_of_first : (ls xs : List Strike) (q n : ℕ) → IsIndex ls xs → IsFirst q xs n n → n ≤ length xs → n ≡ count_below q ls
+count_of_first ls xs q n h f l = count_first q xs n f l ∙ same_count ls xs q h
 
-pub high_is : (ls xs : List Strike) (c n : ℕ) (at : Cursor) → IsIndex ls xs → IsAt ls c n at → at.high ≡ count_below (key c n) xs
-unfolding before
-high_is ls xs c n at h a = a.high ∙ sym (same_count ls xs (key c n) h)
-
-pub lasting_is : (ls ms : List Strike) (c n : ℕ) (at : Cursor) → IsIndex (flat_map if_lasting ls) ms → IsAt ls c n at → at.lasting_high ≡ count_below (key c n) ms
-unfolding before
-lasting_is ls ms c n at j a = a.lasting_high ∙ sym (same_count (flat_map if_lasting ls) ms (key c n) j)
-
-pub at_next : (ls xs ms : List Strike) (c n p q : ℕ) (at : Cursor) → IsIndex ls xs → IsIndex (flat_map if_lasting ls) ms → IsAt ls c n at
-    → p ≡ count_below (key c n + 1) xs → at.high ≤ p → p ≤ length xs
-    → q ≡ count_below (key c n + 1) ms → at.lasting_high ≤ q → q ≤ length ms
-    → IsAt ls c (n + 1) (record { low = at.high; high = p; lasting_low = at.lasting_low; lasting_high = q })
-unfolding before
-at_next ls xs ms c n p q at h j a e o l d r m =
-    let k : key c n + 1 ≡ key c (n + 1) = omega arith in
-    let z : n ≡ n + 1 - 1 = omega arith in
-    let same = length_permutation ls xs h.same in
-    let lasting = length_permutation (flat_map if_lasting ls) ms j.same in
-    let before_all = a.lasting_order in
-    record {
-      low = a.high ∙ ap (before ls c) z;
-      high = e ∙ same_count ls xs (key c n + 1) h ∙ ap (λ q. count_below q ls) k;
-      order = o;
-      inside = omega (arith, l, same);
-      lasting_low = a.lasting_low;
-      lasting_high = d ∙ same_count (flat_map if_lasting ls) ms (key c n + 1) j ∙ ap (λ q. count_below q (flat_map if_lasting ls)) k;
-      lasting_order = omega (arith, r, before_all);
-      lasting_inside = omega (arith, m, lasting);
-    }
+pub below_more_q : (q r : ℕ) (xs : List Strike) → q ≤ r → count_below q xs ≤ count_below r xs
+below_more_q q r xs h = sum_by-le-sum_by (λ (y : Strike). cond (ltb (key_of y) q) 1 0) (λ (y : Strike). cond (ltb (key_of y) r) 1 0) xs (λ y. grind (arith, nat_tests, h))
 
 pub inside_order : (ls xs : List Strike) (n : ℕ) → IsIndex ls xs → n ≤ length ls → n ≤ length xs
 inside_order ls xs n h l = let same = length_permutation ls xs h.same in omega (arith, same)
+
+pub length_between : (xs : List Strike) (low high : ℕ) → low ≤ high → high ≤ length xs → length (take (high - low) (drop low xs)) ≡ high - low
+length_between xs low high o l = let rest = length_drop xs low in length-take-le (high - low) (drop low xs) (omega (arith, rest, o, l))
 
 -- a place of which it is known how many are below it
 first_at : (ls xs : List Strike) (q n : ℕ) → IsIndex ls xs → n ≡ count_below q ls → IsFirst q xs n n
@@ -196,19 +157,17 @@ first_at ls xs q n h e =
     let same : count_below q xs ≡ n = same_count ls xs q h ∙ sym e in
     subst (λ p. IsFirst q xs p p) same (first_count q xs h.rises)
 
-pub part_at : (ls xs b : List Strike) (at : Cursor) → IsIndex ls xs → b ≡ take (at.high - at.low) (drop at.low xs) → (c n : ℕ) → IsAt ls c (n + 1) at → IsPart ls b c n
+pub part_at : (ls xs b : List Strike) (low high : ℕ) → IsIndex ls xs → low ≤ high → b ≡ take (high - low) (drop low xs) → (c n : ℕ) → low ≡ before ls c n → high ≡ before ls c (n + 1) → IsPart ls b c n
 unfolding before
-part_at ls xs b at h is c n a =
+part_at ls xs b low high h o is c n e d =
     let k : key c (n + 1) ≡ key c n + 1 = omega arith in
-    let z : n + 1 - 1 ≡ n = omega arith in
-    let f = first_at ls xs (key c n) at.low h (a.low ∙ ap (before ls c) z) in
-    let g = first_at ls xs (key c n + 1) at.high h (a.high ∙ ap (λ q. count_below q ls) k) in
-    part_found ls xs b c n h (bucket_between (key c n) xs b at.low at.high f g a.order is)
+    let f = first_at ls xs (key c n) low h e in
+    let g = first_at ls xs (key c n + 1) high h (d ∙ ap (λ q. count_below q ls) k) in
+    part_found ls xs b c n h (bucket_between (key c n) xs b low high f g o is)
 
-pub lasting_at : (ls ms b : List Strike) (at : Cursor) → IsIndex (flat_map if_lasting ls) ms → AllInRange ms → b ≡ take (at.lasting_high - at.lasting_low) (drop at.lasting_low ms) → (c n : ℕ) → IsAt ls c (n + 1) at → IsLastingPart ls b c n
+pub next_at : (ls ms b : List Strike) (low high : ℕ) → IsIndex (flat_map if_lasting ls) ms → AllInRange ms → low ≤ high → high ≤ length ms → b ≡ take (high - low) (drop low ms) → (c n : ℕ) → low ≡ before (flat_map if_lasting ls) c n → high ≡ before (flat_map if_lasting ls) c (n + 1) → IsNextPart ls b c n
 unfolding before
-lasting_at ls ms b at j ranges is c n a =
-    let f = first_at (flat_map if_lasting ls) ms (key c 0) at.lasting_low j a.lasting_low in
-    let g = first_at (flat_map if_lasting ls) ms (key c (n + 1)) at.lasting_high j a.lasting_high in
-    let inside = inside_order (flat_map if_lasting ls) ms at.lasting_high j a.lasting_inside in
-    lasting_found ls ms b c n at.lasting_low at.lasting_high j ranges f g a.lasting_order inside is
+next_at ls ms b low high j ranges o inside is c n e d =
+    let f = first_at (flat_map if_lasting ls) ms (key c n) low j e in
+    let g = first_at (flat_map if_lasting ls) ms (key c (n + 1)) high j d in
+    next_found ls ms b c n low high j ranges f g o inside is

@@ -6,3 +6,4 @@ pub mod Places
 pub mod Ranges
 pub mod Totals
 pub mod Walk
+pub mod Walks

@@ -2,11 +2,13 @@
 #![tactic(auto)]
 
 mod bits;
+mod core_walks;
 mod fields;
 mod gathered;
 mod lines;
 mod masks;
 mod order;
+mod ordered;
 mod parsing;
 #[cfg(test)]
 mod tests;
@@ -18,4 +20,4 @@ pub use order::is_brief_strike;
 pub use parsing::parse;
 pub use run_model::faults::{ScriptRefusal, Strike, Unit};
 pub use verdict::{Script, within};
-pub use walking::Cursor;
+pub use walking::Walk;

@@ -1,10 +1,10 @@
 ghost use Rattle.std.specs.Prelude.{◌<◌, ◌^◌, length};
-ghost use Rattle.fault_script.specs.Walk.{IsAt};
+ghost use Rattle.fault_script.specs.Walks.{IsBegun};
 
-use crate::{Cursor, Script, ScriptRefusal, Strike, Unit, parse, within};
+use crate::{Script, ScriptRefusal, Strike, Unit, Walk, parse, within};
 use esa_words::decimal;
 use run_model::faults::CoreNo;
-use std::alloc::Global;
+use std::alloc::{AllocError, Global};
 use std::test::Fail;
 
 // Every form, empty lines, and a last line without line feed.
@@ -210,15 +210,18 @@ fn many_latches(rt: HostRuntime) -> Result<(), Fail> {
     Ok(())
 }
 
-// The cursor of a core after so many of its attempts.
-fn after(script: &Script, core: CoreNo, attempts: u64) -> Cursor
-    ensures { IsAt script.now core.0 attempts result }
+// A script after so many attempts of a core, and none of the others.
+fn after(script: Script, core: CoreNo, attempts: u64) -> Walk
+    requires core { core.0 < 16 }
+    requires some { 0 < attempts }
+    ensures { IsBegun result core.0 }
 {
-    let mut at = script.start(core);
-    for n in 0..attempts {
-        at = script.next(at, core, n);
+    let mut walk = script.walk();
+    walk.begin(core, 0);
+    for n in 1..attempts {
+        walk.begin(core, n);
     }
-    at
+    walk
 }
 
 fn bit_of(s: &Strike) -> u64 {
@@ -240,47 +243,59 @@ fn bits_of(strikes: &[Strike]) -> u64 {
 }
 
 // Whether these are the bits of the last attempt begun, and of the lasting strikes of the core.
-fn has(script: &Script, core: u8, attempts: u64, last: u64, lasting: u64) -> bool {
-    let at = after(script, CoreNo(core), attempts);
-    let found = bits_of(script.under(at));
-    let found_lasting = bits_of(script.lasting_under(at));
-    found == last && found_lasting == lasting
+fn has(alloc: Global, text: &[u8], after_core: (u8, u64), last: u64, lasting: u64) -> bool
+    requires text { length text.now < 2 ^ 32 }
+    requires core { after_core.0 < 16 }
+    requires some { 0 < after_core.1 }
+{
+    let (core, attempts) = after_core;
+    match parse(alloc, text) {
+        Ok(script) => {
+            let walk = after(script, CoreNo(core), attempts);
+            let found = bits_of(walk.under(CoreNo(core)));
+            let found_lasting = bits_of(walk.lasting_under(CoreNo(core)));
+            found == last && found_lasting == lasting
+        }
+        Err(_) => false,
+    }
 }
 
 // For a core and so many attempts. Each strike has a bit of its own.
 #[test]
 fn walked_by_attempt(rt: HostRuntime) {
-    match parse(
-        rt.alloc(),
-        b"U 0 3 A 8 *\nF 0 1 3\nU 1 1 B 9 5\nU 0 0 A 7 2\n\
-          S 0 1 4\nW 0 1 5 6\nU 0 1 B 2 1\nU 0 1 B 5 *",
-    ) {
+    let text = b"U 0 3 A 8 *\nF 0 1 3\nU 1 1 B 9 5\nU 0 0 A 7 2\n\
+          S 0 1 4\nW 0 1 5 6\nU 0 1 B 2 1\nU 0 1 B 5 *";
+    assert!(rt; has(rt.alloc(), text, (0, 1), 7, 7));
+    assert!(rt; has(rt.alloc(), text, (0, 2), 34625, 75));
+    assert!(rt; has(rt.alloc(), text, (0, 3), 0, 5));
+    assert!(rt; has(rt.alloc(), text, (0, 4), 8, 58));
+    assert!(rt; has(rt.alloc(), text, (0, 9), 0, 58));
+    assert!(rt; has(rt.alloc(), text, (1, 1), 0, 0));
+    assert!(rt; has(rt.alloc(), text, (1, 2), 9, 9));
+    assert!(rt; has(rt.alloc(), text, (1, 6), 0, 9));
+    assert!(rt; has(rt.alloc(), text, (1, 7), 0, 0));
+    assert!(rt; has(rt.alloc(), text, (15, 2), 0, 0));
+}
+
+// How many strikes of a core last and strike at the last of so many attempts.
+fn lasting_after(alloc: Global, text: &[u8], core: u8, attempts: u64) -> usize
+    requires text { length text.now < 2 ^ 32 }
+    requires core { core < 16 }
+    requires some { 0 < attempts }
+{
+    match parse(alloc, text) {
         Ok(script) => {
-            assert!(rt; has(&script, 0, 0, 0, 0));
-            assert!(rt; has(&script, 0, 1, 7, 7));
-            assert!(rt; has(&script, 0, 2, 34625, 75));
-            assert!(rt; has(&script, 0, 3, 0, 75));
-            assert!(rt; has(&script, 0, 4, 8, 758));
-            assert!(rt; has(&script, 0, 9, 0, 758));
-            assert!(rt; has(&script, 1, 1, 0, 0));
-            assert!(rt; has(&script, 1, 2, 9, 9));
-            assert!(rt; has(&script, 1, 3, 0, 9));
-            assert!(rt; has(&script, 15, 2, 0, 0));
+            let walk = after(script, CoreNo(core), attempts);
+            walk.lasting_under(CoreNo(core)).len()
         }
-        Err(_) => assert!(rt; false),
+        Err(_) => 0xffff,
     }
 }
 
-// How many strikes of a core last, after so many attempts.
-fn lasting_after(script: &Script, core: u8, attempts: u64) -> usize {
-    let at = after(script, CoreNo(core), attempts);
-    script.lasting_under(at).len()
-}
-
-// The lines `U c n A b *`: b from 0 to 99, c the 16 cores in turn, n one more after each sixteen.
-#[test]
-fn many_that_last(rt: HostRuntime) -> Result<(), Fail> {
-    let mut text = Vec::new(rt.alloc());
+// The lines `U c n A b` with this end: b from 0 to 99, c the 16 cores in turn, n one more after each
+// sixteen.
+fn hundred(alloc: Global, end: &[u8]) -> Result<Vec<u8>, AllocError> {
+    let mut text = Vec::new(alloc);
     for bit in 0..100_u64 {
         text.extend_from_slice(b"U ")?;
         text.extend_from_slice(decimal(bit % 16).as_slice())?;
@@ -288,20 +303,32 @@ fn many_that_last(rt: HostRuntime) -> Result<(), Fail> {
         text.extend_from_slice(decimal(bit / 16).as_slice())?;
         text.extend_from_slice(b" A ")?;
         text.extend_from_slice(decimal(bit).as_slice())?;
-        text.extend_from_slice(b" *\n")?;
+        text.extend_from_slice(end)?;
     }
+    Ok(text)
+}
+
+#[test]
+fn many_that_last(rt: HostRuntime) -> Result<(), Fail> {
+    let text = hundred(rt.alloc(), b" *\n")?;
     assert!(rt; text.len() < 2_000);
-    match parse(rt.alloc(), &text) {
-        Ok(script) => {
-            assert_eq!(rt; script.lasting().len(), 100);
-            assert_eq!(rt; lasting_after(&script, 0, 0), 0);
-            assert_eq!(rt; lasting_after(&script, 0, 3), 3);
-            assert_eq!(rt; lasting_after(&script, 3, 7), 7);
-            assert_eq!(rt; lasting_after(&script, 4, 7), 6);
-            assert_eq!(rt; lasting_after(&script, 15, 1), 1);
-            assert_eq!(rt; lasting_after(&script, 15, 1000), 6);
-        }
-        Err(_) => assert!(rt; false),
-    }
+    assert_eq!(rt; lasting_after(rt.alloc(), &text, 0, 3), 3);
+    assert_eq!(rt; lasting_after(rt.alloc(), &text, 3, 7), 7);
+    assert_eq!(rt; lasting_after(rt.alloc(), &text, 4, 7), 6);
+    assert_eq!(rt; lasting_after(rt.alloc(), &text, 15, 1), 1);
+    assert_eq!(rt; lasting_after(rt.alloc(), &text, 15, 1000), 6);
+    Ok(())
+}
+
+// What is over is not there.
+#[test]
+fn many_that_are_over(rt: HostRuntime) -> Result<(), Fail> {
+    let text = hundred(rt.alloc(), b" 2\n")?;
+    assert!(rt; text.len() < 2_000);
+    assert_eq!(rt; lasting_after(rt.alloc(), &text, 3, 1), 1);
+    assert_eq!(rt; lasting_after(rt.alloc(), &text, 3, 7), 2);
+    assert_eq!(rt; lasting_after(rt.alloc(), &text, 3, 8), 1);
+    assert_eq!(rt; lasting_after(rt.alloc(), &text, 3, 9), 0);
+    assert_eq!(rt; lasting_after(rt.alloc(), &text, 4, 7), 1);
     Ok(())
 }

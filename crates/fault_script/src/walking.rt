@@ -1,64 +1,66 @@
-// The strikes of a core's attempts as these are begun in turn: no attempt needs a search.
+// A script as its attempts are begun.
 #![tactic(auto)]
 
-ghost use Rattle.std.specs.Prelude.{◌≡◌, ℕ, ◌+◌, ◌-◌, ◌≤◌, [], length, take, drop};
-ghost use Rattle.std.specs.List.Sorted.{IsNonDecreasingBy};
+ghost use Rattle.std.specs.Prelude.{◌≡◌, ◌≢◌, ℕ, ◌+◌, ◌<◌, IfOk, length};
 ghost use Rattle.run_model.specs.Script.{AllInRange};
-ghost use Rattle.fault_script.specs.Index.{key_of};
-ghost use Rattle.fault_script.specs.Walk.{count_below, IsAt};
+ghost use Rattle.fault_script.specs.Totals.{IsPart, IsLastingPart};
+ghost use Rattle.fault_script.specs.Walk.{AllStart};
+ghost use Rattle.fault_script.specs.Walks.{IsOn, IsBegun};
 
-use crate::order::key_of_strike;
-use run_model::faults::Strike;
+use crate::Strike;
+use crate::core_walks::CoreWalk;
+use crate::ordered::Ordered;
+use run_model::faults::CoreNo;
+use std::alloc::{AllocError, Global};
 
-/// Where the strikes of the last attempt of a core that was begun stand in a script's order, and
-/// where those of the core that last and were begun by then stand in theirs. It is of use only with
-/// the script, the core and the number of attempts that it was made for.
-#[derive(Clone, Copy)]
-pub struct Cursor {
-    pub(crate) low: usize,
-    pub(crate) high: usize,
-    pub(crate) lasting_low: usize,
-    pub(crate) lasting_high: usize,
+/// A script with where the attempts of each core stand in it. An attempt costs what strikes it.
+#[derive(Drop)]
+pub struct Walk {
+    pub(crate) ordered: Ordered,
+    pub(crate) cores: Vec<CoreWalk>,
 }
 
-impl Cursor {
-    /// In a script without strikes, of any core and after any number of attempts.
-    #[tactic(auto, unfolding(crate::specs::Walk::before))]
-    pub fn nowhere() -> Cursor
-        ensures { (core begun : ℕ) → IsAt [] core begun result }
+/// Before the first attempt of each core.
+pub fn starts(alloc: Global, ordered: &Ordered) -> Result<Vec<CoreWalk>, AllocError>
+    ensures { IfOk result (λ v. AllStart ordered.now v.items) }
+{
+    let mut cores = Vec::new(alloc);
+    for core in 0..16_u8 {
+        cores.push(CoreWalk::start(alloc, ordered, CoreNo(core))?)?;
+    }
+    Ok(cores)
+}
+
+impl Walk {
+    /// One attempt of a core more is begun, after so many.
+    pub fn begin(&mut self, core: CoreNo, begun: u64)
+        requires { IsOn self.old core.0 begun }
+        ensures lines { self.new.ordered ≡ self.old.ordered }
+        ensures on { IsOn self.new core.0 (begun + 1) }
+        ensures others { (c n : ℕ) → c ≢ core.0 → IsOn self.old c n → IsOn self.new c n }
     {
-        Cursor {
-            low: 0,
-            high: 0,
-            lasting_low: 0,
-            lasting_high: 0,
-        }
+        self.cores[core.0 as usize].begin(&self.ordered, core, begun);
     }
-}
 
-/// The place past the strikes of key `q`, the first of which stands at `from`.
-pub fn past(sorted: &[Strike], q: u128, from: usize) -> usize
-    requires rises { IsNonDecreasingBy key_of sorted.now }
-    requires first { from ≡ count_below q sorted.now }
-    ensures past { result ≡ count_below (q + 1) sorted.now }
-    ensures order { from ≤ result }
-    ensures inside { result ≤ length sorted.now }
-{
-    for high in from..sorted.len() {
-        if key_of_strike(&sorted[high]) != q {
-            return high;
-        }
+    /// The strikes of a core whose first attempt is the last one begun, as `Script::at` gives them.
+    pub fn under(&self, core: CoreNo) -> &[Strike]
+        requires { IsBegun self.now core.0 }
+        ensures ranges { AllInRange result.now }
+        ensures part { (n : ℕ) → IsOn self.now core.0 (n + 1)
+            → IsPart self.now.ordered result.now core.0 n }
+    {
+        let at = &self.cores[core.0 as usize];
+        self.ordered.between(at.low, at.high)
     }
-    sorted.len()
-}
 
-/// The strikes from one place to another.
-#[tactic(auto, using(crate::proofs::Forms::ranges_between))]
-pub fn between(sorted: &[Strike], low: usize, high: usize) -> &[Strike]
-    requires order { low ≤ high }
-    requires inside { high ≤ length sorted.now }
-    ensures same { result.now ≡ take (high - low) (drop low sorted.now) }
-    ensures ranges { AllInRange sorted.now → AllInRange result.now }
-{
-    &sorted[low..high]
+    /// The strikes of packets of a core that last more attempts than one and strike at the last one
+    /// begun: at it they flip what all that last flip.
+    pub fn lasting_under(&self, core: CoreNo) -> &[Strike]
+        requires { IsBegun self.now core.0 }
+        ensures ranges { AllInRange result.now }
+        ensures part { (n : ℕ) → IsOn self.now core.0 (n + 1)
+            → IsLastingPart self.now.ordered result.now core.0 n }
+    {
+        &self.cores[core.0 as usize].live
+    }
 }

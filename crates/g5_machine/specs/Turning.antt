@@ -13,6 +13,8 @@ use Rattle.run_model.specs.Fate.{Sound}
 use Rattle.run_model.specs.Runs.{Model, Told, outline_of, tells, tells_nothing_else, turned}
 use Rattle.run_laws.specs.Bounds.{BoundedCpus}
 use Rattle.silicon.specs.Chip.{Chip}
+use Rattle.silicon.specs.Tape.{Tape, tells as tells_tape}
+use Rattle.core_turns.specs.Handing.{hands}
 use Rattle.core_turns.specs.Held.{core_of}
 use Rattle.core_turns.specs.Meeting.{event_of}
 use Rattle.core_turns.specs.declared.held.Held.{Held}
@@ -72,3 +74,9 @@ abbrev pub FollowsAll : List Strike → Config → Machine → Chip → RunKind 
 FollowsAll ls c before z kind t after z2 = (x : Model) → StandsFor before z x
     → BoundedCpus ls c x.fate → Sound ls (turned ls c x kind).fate
     → Follows ls c x kind t after z2
+
+-- and of every such state, what was handed in to the silicon is what the definitions say
+abbrev pub HandsAll : List Strike → Config → Machine → Chip → RunKind → Tape → Tape → Type 0
+HandsAll ls c before z kind old new = (x : Model) → StandsFor before z x
+    → BoundedCpus ls c x.fate → Sound ls (turned ls c x kind).fate
+    → new ≡ tells_tape old (hands ls x kind)

@@ -10,7 +10,7 @@ ghost use Rattle.core_turns.specs.Held.{core_of};
 ghost use Rattle.core_turns.specs.Meeting.{TurnGoes, next_cause, why_met};
 ghost use Rattle.core_turns.specs.Recovered.{Recovers};
 ghost use Rattle.g5_machine.specs.Standing.{StandsByMode};
-ghost use Rattle.g5_machine.specs.Turning.{FollowsAll, Obeys, core_at, told_by};
+ghost use Rattle.g5_machine.specs.Turning.{FollowsAll, HandsAll, Obeys, core_at, told_by};
 
 use crate::machine::Machine;
 use crate::turns::Turn;
@@ -59,6 +59,9 @@ impl Machine {
         ensures follows { IsTrue (P.seen a.old).exact → IsTrue (Q.seen b.old).exact
             → FollowsAll (Z.seen z.old).lines self.old.config self.old (Z.seen z.old)
             (kinds.Turns cpu) (told_by cpu.0 result) self.new (Z.seen z.new) }
+        ensures hands { IsTrue (P.seen a.old).exact → IsTrue (Q.seen b.old).exact
+            → HandsAll (Z.seen z.old).lines self.old.config self.old (Z.seen z.old)
+            (kinds.Turns cpu) (Z.tape z.old) (Z.tape z.new) }
         ensures obeys { (s : Cores) → StandsByMode self.old s
             → Obeys self.old.config s (kinds.Turns cpu) (told_by cpu.0 result) self.new }
         ensures goes { (h after : Held) → slice_get self.old.cpus.items cpu.0 ≡ Some h

@@ -1,1 +1,2 @@
 pub mod ReadLoop
+pub mod Limits

@@ -1,7 +1,12 @@
 -- What reading an input tells of a shelf.
 use Rattle.std.specs.Prelude.{◌≡◌, ℕ, ◌≤◌, ◌<◌, List, length, Some, None, Result, Ok, Err, IsTrue, Bool, true, false}
+use Rattle.g5_outside.specs.Causes.{Rose}
 use Rattle.g5_outside.specs.Views.{ShelfView}
 use Rattle.g5_outside.specs.Calls.{file_named}
+use Rattle.program_model.specs.Inputs.{limit}
+use Rattle.program_model.specs.declared.inputs.Input.{Input}
+use Rattle.program_model.specs.declared.status.Status.{Status}
+use Rattle.program_model.specs.declared.status.Status.TheVariants as status
 use Rattle.g5_reading.specs.declared.reading.ReadRefusal.{ReadRefusal}
 use Rattle.g5_reading.specs.declared.reading.ReadRefusal.TheVariants.{NoFile, Fault, TooLarge, NoMemory}
 
@@ -37,3 +42,29 @@ WasFound found (Err NoFile) = found ≡ false
 WasFound found (Err TooLarge) = found ≡ true
 WasFound found (Err NoMemory) = found ≡ true
 WasFound found (Err Fault) = Unit {0}
+
+-- ---- an input of the program
+
+-- these are the bytes of the file, within its limit
+pub record IsIn (name : List ℕ) (limit : ℕ) (shelf : ShelfView) (bytes : List ℕ) : Type 0 where
+  pub bound : length bytes ≤ limit
+  pub is : IsTrue shelf.told → file_named name shelf.files ≡ Some bytes
+
+-- the find answered false
+pub record FindsNone (name : List ℕ) (old new : ShelfView) : Type 0 where
+  pub found : new.found ≡ false
+  pub missing : IsTrue old.told → IsMissing name old
+
+-- the find answered true, and the file is longer than its limit
+pub record FindsTooMuch (name : List ℕ) (limit : ℕ) (old new : ShelfView) : Type 0 where
+  pub found : new.found ≡ true
+  pub above : IsTrue old.told → IsTooLarge name limit old
+
+-- why it was not read: each status by its cause, and no other status
+abbrev pub IsUnreadInput : Input → List ℕ → ShelfView → ShelfView → Status → Type 0
+IsUnreadInput input name old new (status.NoFile at) = (at ≡ input) × FindsNone name old new
+IsUnreadInput input name old new status.ReadFault = Rose old.read_faults new.read_faults
+IsUnreadInput input name old new (status.TooLarge at) =
+    (at ≡ input) × FindsTooMuch name (limit input) old new
+IsUnreadInput input name old new status.NoMemory = Unit {0}
+IsUnreadInput input name old new other = ⊥

@@ -1,8 +1,10 @@
-//! Input files, read whole up to a limit.
+//! Inputs: files read whole, up to a limit.
 #![tactic(auto)]
 
+mod inputs;
 mod reading;
 #[cfg(test)]
 mod tests;
 
+pub use inputs::read_input;
 pub use reading::{ReadRefusal, read_some, read_whole};

@@ -1,6 +1,8 @@
 //! Inputs of files in memory.
-use crate::{ReadRefusal, read_whole};
+use crate::{ReadRefusal, read_input, read_whole};
 use g5_outside::{MemoryShelf, NamedFile};
+use program_model::inputs::Input;
+use program_model::status::Status;
 use std::alloc::Global;
 use std::test::Fail;
 
@@ -48,6 +50,22 @@ fn files_up_to_their_limit(rt: HostRuntime) -> Result<(), Fail> {
             refusal,
             "{name} within {limit}"
         );
+    }
+    Ok(())
+}
+
+#[test]
+fn inputs_by_their_status(rt: HostRuntime) -> Result<(), Fail> {
+    let alloc = rt.alloc();
+    for (name, failing, status) in [
+        ("D", 1000, None),
+        ("E", 1000, Some(Status::NoFile(Input::Log))),
+        ("D", 1, Some(Status::ReadFault)),
+        ("D", 2, Some(Status::ReadFault)),
+    ] {
+        let mut shelf = shelf_of(alloc, failing)?;
+        let refused = read_input(alloc, &mut shelf, Input::Log, name).err();
+        assert_eq!(rt; refused, status, "{name}, where call {failing} fails");
     }
     Ok(())
 }

@@ -2,8 +2,8 @@
 use Rattle.std.proofs.Common.{◌≡◌, ℕ, ◌≤◌, ◌<◌, List, length, sym, ◌∙◌, ap, arith, Some, None, Ok, Err, IsTrue}
 use Rattle.g5_outside.specs.Views.{ShelfView}
 use Rattle.g5_outside.specs.Calls.{file_named}
-use Rattle.g5_reading.specs.Inputs.{IsTooLarge}
-use Rattle.job_inputs.specs.Reads.{AreRead, IsAboveLimit, IsAbsent, IsIn}
+use Rattle.g5_reading.specs.Inputs.{IsIn, IsTooLarge}
+use Rattle.job_inputs.specs.Reads.{AreRead, IsAboveLimit, IsAbsent}
 use Rattle.program_model.specs.Accepted.{Job, JobBytes, job}
 use Rattle.program_model.specs.Commands.{JobNames, SessionNames}
 use Rattle.program_model.specs.Inputs.{limit}

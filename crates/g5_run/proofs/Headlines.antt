@@ -31,30 +31,11 @@ use Rattle.run_model.specs.Premise.{Within}
 use Rattle.run_model.specs.Runs.{Model, Told, entries, first_model, run_after, run_tells, turned}
 use Rattle.run_model.specs.Sorts.{how_many, is_stop, is_stop_entry, of_sort}
 use Rattle.run_model.specs.Texts.{turns_pieces, whole}
-use Rattle.silicon.specs.Chip.{Chip}
-use Rattle.g5_run.specs.Ends.{EndsWhole, status_by}
+use Rattle.g5_run.specs.Ends.{EndsWhole}
+use Rattle.g5_run.specs.Leaving.{SiliconAfter, status_by}
 use Rattle.g5_run.specs.Headline.{Headline, SameWithoutFaults, faultless}
-use Rattle.g5_run.specs.RunTells.{IsSound, RunTells, turns}
-
--- ---- all turns of a sound run
-
-pub tells_each : (ls : List Strike) (c : Config) (x : Model) (ks : List RunKind)
-    → length (run_tells ls c x ks) ≡ length ks
-tells_each ls c x [] = refl
-tells_each ls c x (k ∷ ks) = ap suc (tells_each ls c (turned ls c x k) ks)
-
-job_each : (c : Config) (j : Job) → length (job_tells c j) ≡ length (turns j)
-unfolding job_tells
-job_each c j = tells_each j.strikes c (first_model c (first_machine c j)) (turns j)
-
-pub all_told : (c : Config) (j : Job) (told : List Told) → RunTells c j told
-    → length told ≡ length (turns j) → IsSound c j (length (turns j)) → told ≡ job_tells c j
-all_told c j told tells all sound =
-    let n : ℕ = length (turns j) in
-    let le : n ≤ length told = omega (arith, all) in
-    let same : take n told ≡ take n (job_tells c j) = tells.sound n le sound in
-    sym (take_all n told (omega (arith, all))) ∙ same
-    ∙ take_all n (job_tells c j) (omega (arith, job_each c j))
+use Rattle.machine_runs.proofs.RunTold.{all_told}
+use Rattle.machine_runs.specs.RunTells.{IsSound, RunTells, turns}
 
 -- ---- under the premise all turns are sound
 
@@ -103,7 +84,7 @@ faultless_text p c j h =
 -- ---- the headline
 
 pub headline_of : (names : JobNames) (c : Config) (count : Counts) (within : Bool)
-    (a b : ShelfView) (o p : SinkView) (z : Chip) → (h : EndsWhole names c count within a b o p z)
+    (a b : ShelfView) (o p : SinkView) (z : SiliconAfter) → (h : EndsWhole names c count within a b o p z)
     → c.cpus ≤ 8 → Within h.job.strikes → Headline names c h.job b o p
 headline_of names c count within a b o p z h few premise =
     let told : h.told ≡ job_tells c h.job = all_told c h.job h.told h.tells h.all
@@ -143,7 +124,7 @@ none_of (e ∷ es) h =
     none_by false n rest f h = f (omega (arith, h))
 
 pub same_of : (names : JobNames) (c : Config) (count : Counts) (within : Bool) (a b : ShelfView)
-    (o p : SinkView) (z : Chip) → (h : EndsWhole names c count within a b o p z) → c.cpus ≤ 8
+    (o p : SinkView) (z : SiliconAfter) → (h : EndsWhole names c count within a b o p z) → c.cpus ≤ 8
     → Within h.job.strikes → Done ≡ status_by count → SameWithoutFaults names c h.job b o p
 unfolding job_tells
 same_of names c count within a b o p z h few premise done =

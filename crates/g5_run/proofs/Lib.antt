@@ -2,8 +2,7 @@ pub mod Named
 pub mod Accepted
 pub mod Consequences
 pub mod Headlines
-pub mod RunTold
 pub mod Headed
 pub mod Ending
-pub mod Readying
 pub mod Telling
+pub mod Summaries

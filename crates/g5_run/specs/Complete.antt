@@ -5,7 +5,7 @@ use Rattle.g5_outside.specs.Views.{ShelfView, SinkView}
 use Rattle.program_model.specs.Accepted.{Job}
 use Rattle.program_model.specs.Commands.{JobNames}
 use Rattle.program_model.specs.declared.status.Status.{Status}
-use Rattle.program_model.specs.declared.status.Status.TheVariants.{Done, CheckStopped, WriteFault}
+use Rattle.program_model.specs.declared.status.Status.TheVariants.{Done, CheckStopped, WriteFault, AuditNo}
 use Rattle.run_model.specs.declared.logs.Config.{Config}
 use Rattle.g5_run.specs.Accepting.{IsJob}
 
@@ -14,6 +14,7 @@ abbrev pub ComesBeforeOutput : Status → Type 0
 ComesBeforeOutput Done = ⊥
 ComesBeforeOutput CheckStopped = ⊥
 ComesBeforeOutput WriteFault = ⊥
+ComesBeforeOutput (AuditNo refusal) = ⊥
 ComesBeforeOutput status = Unit {0}
 
 -- the schedule was made to its end

@@ -1,45 +1,40 @@
 -- How the program ends: each status by its cause, with what is held then and what is said of it.
 -- Source: choice of this project.
-use Rattle.std.specs.Prelude.{◌≡◌, ◌⊎◌, ◌<◌, ◌==◌, ℕ, List, Bool, true, false, IsTrue, ◌↔◌, Option, Some, None, length, codes, if◌then◌else◌}
-use Rattle.checkpoint_laws.specs.Stored.{StoredAs}
+use Rattle.std.specs.Prelude.{◌≡◌, ◌⊎◌, ℕ, List, Bool, true, IsTrue, ◌↔◌, Option, Some, None, length, codes}
 use Rattle.g5_outside.specs.Causes.{Rose}
 use Rattle.g5_outside.specs.Views.{ShelfView, SinkView}
 use Rattle.g5_words.specs.Ranges.{IsInLimits}
 use Rattle.g5_writing.specs.Starts.{OnlyNames}
 use Rattle.machine_runs.specs.Whole.{pieces_by}
 use Rattle.program_model.specs.Accepted.{Job}
-use Rattle.program_model.specs.Commands.{Command, JobNames, run}
+use Rattle.program_model.specs.Commands.{Command, JobNames, audit, generate, migrate, run}
 use Rattle.program_model.specs.Inputs.{input_name}
 use Rattle.program_model.specs.Statuses.{line_of}
 use Rattle.program_model.specs.declared.status.Status.{Status}
 use Rattle.program_model.specs.declared.status.Status.TheVariants.{Done, CheckStopped, Usage, WriteFault, NoMemory}
 use Rattle.run_model.specs.declared.logs.Config.{Config}
 use Rattle.run_model.specs.declared.outputs.Counts.{Counts}
-use Rattle.run_model.specs.Cores.{is_lost}
 use Rattle.run_model.specs.Counts.{counts}
 use Rattle.run_model.specs.Pieces.{IsCut, Piece}
 use Rattle.run_model.specs.Premise.{Within}
-use Rattle.run_model.specs.Runs.{Model, Told}
+use Rattle.run_model.specs.Runs.{Told}
 use Rattle.run_model.specs.Texts.{report, whole}
-use Rattle.silicon.specs.Chip.{Chip}
+use Rattle.silicon.specs.Tape.{tells as tells_tape}
+use Rattle.machine_runs.specs.Jobs.{LeavesSilicon, job_hands}
 use Rattle.status_lines.specs.Says.{Says}
 use Rattle.g5_run.specs.Accepting.{IsJob, IsRefused}
+use Rattle.g5_run.specs.Converts.{Converts}
+use Rattle.g5_run.specs.Generates.{Generates}
+use Rattle.g5_run.specs.Judges.{AuditEnds}
+use Rattle.g5_run.specs.Leaving.{SiliconAfter, status_by}
 use Rattle.g5_run.specs.Holding.{Holds, HasOutputs, Untouched}
-use Rattle.g5_run.specs.RunTells.{RunTells, IsSound, state_after, turns}
+use Rattle.machine_runs.specs.RunTells.{RunTells, IsSound, state_after, turns}
 
 -- ---- a run that was made to its end
 
--- the silicon has the attempts begun, and each core with a CPU that is not lost stores the CPU's
--- registers, with the wrong positions of this state
-pub record LeavesSilicon (c : Config) (x : Model) (z : Chip) : Type 0 where
-  pub begun : (k : ℕ) → k < 16 → z.begun k ≡ x.fate.begun k
-  pub words : (i : ℕ) → i < c.cpus → is_lost (x.fate.cores.mode i) ≡ false
-      → StoredAs z (x.fate.cores.core i) (x.machine.registers i)
-      (x.fate.wrong (x.fate.cores.core i))
-
 -- all turns of the schedule were made, these are their counts, and the outputs are whole
 pub record EndsWhole (names : JobNames) (c : Config) (count : Counts) (within : Bool)
-    (a b : ShelfView) (o p : SinkView) (z : Chip) : Type 0 where
+    (a b : ShelfView) (o p : SinkView) (z : SiliconAfter) : Type 0 where
   pub job : Job
   pub inputs : IsJob names c job a
   pub premise : IsTrue within ↔ Within job.strikes
@@ -50,17 +45,15 @@ pub record EndsWhole (names : JobNames) (c : Config) (count : Counts) (within : 
   pub holds : Holds names (whole c told) b o p
   pub outputs : HasOutputs names b
   pub silicon : IsSound c job (length (turns job))
-      → LeavesSilicon c (state_after c job (length (turns job))) z
+      → LeavesSilicon c (state_after c job (length (turns job))) z.chip
+  pub handed : IsSound c job (length (turns job))
+      → z.after ≡ tells_tape z.before (job_hands c job)
   pub told_still : b.told ≡ a.told
   pub found : b.found ≡ true
 
--- 20 where a CPU was check-stopped
-abbrev pub status_by : Counts → Status
-status_by n = if n.stopped == 0 then Done else CheckStopped
-
 -- the report is said
 pub record Reports (names : JobNames) (c : Config) (a b : ShelfView) (o p e f : SinkView)
-    (z : Chip) (status : Status) : Type 0 where
+    (z : SiliconAfter) (status : Status) : Type 0 where
   pub count : Counts
   pub within : Bool
   pub whole : EndsWhole names c count within a b o p z
@@ -103,29 +96,34 @@ EndsEarly names c a b o p WriteFault = EndsCut names c a b o p
 EndsEarly names c a b o p status = EndsUntouched names c a b o p status
 
 abbrev pub JobEnds : JobNames → Config → ShelfView → ShelfView → SinkView → SinkView → SinkView
-    → SinkView → Chip → Status → Type 0
+    → SinkView → SiliconAfter → Status → Type 0
 JobEnds names c a b o p e f z Done = Reports names c a b o p e f z Done
 JobEnds names c a b o p e f z CheckStopped = Reports names c a b o p e f z CheckStopped
 JobEnds names c a b o p e f z status =
     EndsEarly names c a b o p status × Says (line_of (input_name (run names c)) status) e f
 
--- the words ask for a run, and it ends so
-pub record RunEnds (asked : Option Command) (a b : ShelfView) (o p e f : SinkView) (z : Chip)
-    (status : Status) : Type 0 where
-  pub names : JobNames
-  pub config : Config
-  pub is : asked ≡ Some (run names config)
-  pub limits : IsInLimits config
-  pub ends : JobEnds names config a b o p e f z status
+-- ---- how the program ends, by its status and by what the words ask for
 
 -- nothing was touched, and this was said
 pub record SaysAlone (text : List ℕ) (a b : ShelfView) (o p e f : SinkView) : Type 0 where
   pub untouched : Untouched a b o p
   pub said : Says text e f
 
--- how the program ends, by what the words ask for
+-- how a command ends that is built
+abbrev pub CommandEnds : Option Command → ShelfView → ShelfView → SinkView → SinkView → SinkView
+    → SinkView → SiliconAfter → Status → Type 0
+CommandEnds (Some (run names c)) a b o p e f z status =
+    IsInLimits c × JobEnds names c a b o p e f z status
+CommandEnds (Some (generate number turns)) a b o p e f z status =
+    Generates number turns a b o p e f z status
+CommandEnds (Some (migrate old new)) a b o p e f z status = Converts old new a b o p e f status
+CommandEnds (Some (audit log)) a b o p e f z status = AuditEnds log a b o p e f status
+CommandEnds (Some other) a b o p e f z status = ⊥
+CommandEnds None a b o p e f z status = ⊥
+
+-- memory may be wanted before the words are read
 abbrev pub Ends : Option Command → ShelfView → ShelfView → SinkView → SinkView → SinkView
-    → SinkView → Chip → Status → Type 0
+    → SinkView → SiliconAfter → Status → Type 0
 Ends asked a b o p e f z Usage = (asked ≡ None) × SaysAlone (codes "usage\n") a b o p e f
 Ends asked a b o p e f z NoMemory = SaysAlone (codes "no memory\n") a b o p e f
-Ends asked a b o p e f z status = RunEnds asked a b o p e f z status
+Ends asked a b o p e f z status = CommandEnds asked a b o p e f z status

@@ -17,7 +17,7 @@ use Rattle.run_model.specs.declared.outputs.Place.TheVariants.{Log, Trace, Out}
 use Rattle.run_model.specs.Pieces.{text}
 use Rattle.run_model.specs.Runs.{Told, entries, order}
 use Rattle.run_model.specs.Texts.{turns_pieces, whole}
-use Rattle.g5_run.specs.RunTells.{turns}
+use Rattle.machine_runs.specs.RunTells.{turns}
 
 -- what the machine without faults tells of the events in their order
 abbrev pub faultless : Config → Job → List Told

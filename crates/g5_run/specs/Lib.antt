@@ -1,9 +1,14 @@
 pub mod Asked
 pub mod Accepting
-pub mod RunTells
 pub mod Holding
+pub mod Leaving
+pub mod Generates
+pub mod Converts
+pub mod Judges
 pub mod Ends
 pub mod Complete
 pub mod Headline
+pub mod LawfulLogs
 pub mod Readiness
+pub mod Built
 pub mod Endings

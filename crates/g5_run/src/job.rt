@@ -4,6 +4,7 @@ ghost use Rattle.g5_words.specs.Asked.{job_names};
 ghost use Rattle.g5_words.specs.Ranges.{IsInLimits};
 ghost use Rattle.silicon.specs.Chip.{Fresh};
 ghost use Rattle.g5_run.specs.Endings.{IsEnding};
+ghost use Rattle.g5_run.specs.Leaving.{silicon_after};
 
 use crate::ready::prepare;
 use g5_outside::{Shelf, Sink};
@@ -38,7 +39,8 @@ pub fn run_job<F: Shelf, O: Sink, Z: Silicon>(
     requires shelf { (F.seen shelf.old).numbers ≡ [] }
     requires silicon { Fresh (Z.seen silicon.old) }
     ensures { IsEnding (job_names names.now) config (F.seen shelf.old) (F.seen shelf.new)
-        (O.seen out.old) (O.seen out.new) (Z.seen silicon.new) result }
+        (O.seen out.old) (O.seen out.new)
+        (silicon_after (Z.seen silicon.new) (Z.tape silicon.old) (Z.tape silicon.new)) result }
 {
     let mut ready = match prepare(alloc, names, config, shelf, silicon) {
         Ok(ready) => ready,

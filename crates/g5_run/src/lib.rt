@@ -1,8 +1,11 @@
 //! The top call: all that the program does for its words, over any files, streams and silicon.
 #![tactic(auto)]
 
+mod generated;
 mod job;
+mod logs;
 mod ready;
+mod statuses;
 #[cfg(test)]
 mod tests;
 mod top;

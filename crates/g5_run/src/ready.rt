@@ -7,26 +7,14 @@ ghost use Rattle.silicon.specs.Chip.{Fresh};
 ghost use Rattle.g5_run.specs.Accepting.{inputs_of, IsRefused};
 ghost use Rattle.g5_run.specs.Readiness.{IsReady};
 
-use fault_script::within;
-use g5_machine::Machine;
 use g5_outside::Shelf;
 use g5_words::{JobNames, SessionNames};
 use job_inputs::{accept, read_inputs};
-use machine_runs::TwinMachine;
+use machine_runs::{Ready, make_ready};
 use program_model::status::Status;
 use run_model::logs::Config;
 use silicon::Silicon;
 use std::alloc::Global;
-use turn_schedule::Schedule;
-
-/// A machine at its start, over a silicon that has its script; the schedule that it is to make, and
-/// whether the script is within the premise.
-#[derive(Drop)]
-pub struct Ready {
-    pub machine: TwinMachine,
-    pub schedule: Schedule,
-    pub within: bool,
-}
 
 // The files that a run reads.
 fn inputs_of<'a>(names: &JobNames<'a>) -> SessionNames<'a>
@@ -56,22 +44,9 @@ pub fn prepare<F: Shelf, Z: Silicon>(
         (F.seen shelf.new) (Z.seen silicon.new) r) }
     ensures refused { IfErr result (IsRefused (job_names names.now) config (F.seen shelf.old)
         (F.seen shelf.new)) }
+    ensures tape { Z.tape silicon.new ≡ Z.tape silicon.old }
 {
     let inputs = read_inputs(alloc, shelf, &inputs_of(names))?;
     let accepted = accept(alloc, config, inputs)?;
-    let within = within(&accepted.script);
-    silicon.arm(accepted.script);
-    let machine = Machine::new(
-        alloc,
-        config,
-        accepted.entry,
-        accepted.storage,
-        accepted.console,
-        silicon,
-    )?;
-    Ok(Ready {
-        machine: TwinMachine::new(machine),
-        schedule: accepted.schedule,
-        within,
-    })
+    Ok(make_ready(alloc, config, accepted, silicon)?)
 }

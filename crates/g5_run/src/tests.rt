@@ -3,7 +3,9 @@ ghost use Rattle.std.specs.Prelude.{◌≡◌, [], IfOk};
 ghost use Rattle.g5_outside.specs.MemoryShelves.{shelf_view};
 
 mod faults;
+mod generated;
 mod groups;
+mod logs;
 mod recovery;
 mod refusals;
 mod rows;

@@ -1,37 +1,31 @@
 // The top call.
 ghost use Rattle.std.specs.Prelude.{◌≡◌, ◌≢◌, ◌⊎◌, [], IfSome, Some, map, option_map, string_bytes};
 ghost use Rattle.g5_words.specs.Asked.{asked_by, job_names};
-ghost use Rattle.g5_words.specs.Ranges.{IsInLimits, IsSound, WritesTwo};
+ghost use Rattle.g5_words.specs.Ranges.{IsInLimits, IsSound};
 ghost use Rattle.program_model.specs.Accepted.{Job};
 ghost use Rattle.program_model.specs.Commands.{JobNames as NamesAsked, run};
 ghost use Rattle.run_model.specs.Premise.{Within};
 ghost use Rattle.silicon.specs.Chip.{Fresh};
 ghost use Rattle.g5_run.specs.Asked.{asked, if_built};
+ghost use Rattle.g5_run.specs.Built.{IsSoundly, built_as};
 ghost use Rattle.g5_run.specs.Complete.{ComesBeforeOutput, IsAccepted, IsMade, NothingFailed};
-ghost use Rattle.g5_run.specs.Ends.{Ends, JobEnds, status_by};
+ghost use Rattle.g5_run.specs.Ends.{Ends, JobEnds};
+ghost use Rattle.g5_run.specs.Leaving.{silicon_after};
 ghost use Rattle.g5_run.specs.Headline.{Headline, SameWithoutFaults};
 ghost use Rattle.g5_run.specs.Holding.{Untouched};
+ghost use Rattle.g5_run.specs.LawfulLogs.{HasLawfulLog};
 
+use crate::generated::generate_and_run;
 use crate::job::{Ending, run_job};
+use crate::logs::{audit_and_say, migrate_and_say};
+use crate::statuses::status_of;
 use g5_outside::{Shelf, Sink};
 use g5_words::{Command, JobNames, WordsRefused, read_command};
 use program_model::status::Status;
 use run_model::logs::Config;
-use run_model::outputs::Counts;
 use silicon::Silicon;
 use status_lines::{report_of, say, say_line};
 use std::alloc::Global;
-
-// The status of a run that was made to its end.
-fn status_of(counts: Counts) -> Status
-    ensures { result ≡ status_by counts }
-{
-    if counts.stopped == 0 {
-        Status::Done
-    } else {
-        Status::CheckStopped
-    }
-}
 
 // Makes a run, and says how it ended.
 fn run_command<F: Shelf, O: Sink, E: Sink, Z: Silicon>(
@@ -49,7 +43,7 @@ fn run_command<F: Shelf, O: Sink, E: Sink, Z: Silicon>(
     requires silicon { Fresh (Z.seen silicon.old) }
     ensures { JobEnds (job_names names.now) config (F.seen shelf.old) (F.seen shelf.new)
         (O.seen out.old) (O.seen out.new) (E.seen err.old) (E.seen err.new)
-        (Z.seen silicon.new) result }
+        (silicon_after (Z.seen silicon.new) (Z.tape silicon.old) (Z.tape silicon.new)) result }
 {
     match run_job(alloc, names, config, shelf, out, silicon) {
         Ending::Whole(within, counts) => {
@@ -67,34 +61,31 @@ fn run_command<F: Shelf, O: Sink, E: Sink, Z: Silicon>(
     }
 }
 
-// What the words ask for: the files of a run and its configuration.
+// A command that is built.
 #[derive(Clone, Copy)]
-struct RunAsked<'a> {
-    names: JobNames<'a>,
-    config: Config,
+enum Built<'a> {
+    Run(JobNames<'a>, Config),
+    Gen(u32, u32),
+    Migrate(&'a str, &'a str),
+    Audit(&'a str),
 }
 
-// The run that a command asks for. The other commands are not built yet.
-fn run_of<'a>(command: &Command<'a>) -> Option<RunAsked<'a>>
-    ensures asked { if_built (asked_by command.now)
-        ≡ option_map (λ r. run (job_names r.names) r.config) result }
-    ensures sound { IsSound command.now
-        → IfSome result (λ r. WritesTwo r.names × IsInLimits r.config) }
+// What a command asks for, if it is built.
+fn built_of<'a>(command: &Command<'a>) -> Option<Built<'a>>
+    ensures asked { if_built (asked_by command.now) ≡ option_map built_as result }
+    ensures sound { IsSound command.now → IfSome result IsSoundly }
 {
     match command {
-        Command::Run { job, config } => Some(RunAsked {
-            names: *job,
-            config: *config,
-        }),
+        Command::Run { job, config } => Some(Built::Run(*job, *config)),
         Command::Debug { .. } => None,
-        Command::Gen { .. } => None,
-        Command::Migrate { .. } => None,
+        Command::Gen { number, turns } => Some(Built::Gen(*number, *turns)),
+        Command::Migrate { old, new } => Some(Built::Migrate(old, new)),
         Command::Asm { .. } => None,
         Command::Dis { .. } => None,
         Command::Link { .. } => None,
         Command::Save { .. } => None,
         Command::Resume(_) => None,
-        Command::Audit { .. } => None,
+        Command::Audit { log } => Some(Built::Audit(log)),
     }
 }
 
@@ -111,7 +102,7 @@ fn obey<F: Shelf, O: Sink, E: Sink, Z: Silicon>(
     requires silicon { Fresh (Z.seen silicon.old) }
     ensures { Ends (asked (map string_bytes words.now)) (F.seen shelf.old) (F.seen shelf.new)
         (O.seen out.old) (O.seen out.new) (E.seen err.old) (E.seen err.new)
-        (Z.seen silicon.new) result }
+        (silicon_after (Z.seen silicon.new) (Z.tape silicon.old) (Z.tape silicon.new)) result }
 {
     let command = match read_command(alloc, words) {
         Ok(command) => command,
@@ -124,8 +115,15 @@ fn obey<F: Shelf, O: Sink, E: Sink, Z: Silicon>(
             return Status::NoMemory;
         }
     };
-    match run_of(&command) {
-        Some(asked) => run_command(alloc, &asked.names, asked.config, shelf, out, err, silicon),
+    match built_of(&command) {
+        Some(Built::Run(names, config)) => {
+            run_command(alloc, &names, config, shelf, out, err, silicon)
+        }
+        Some(Built::Gen(number, turns)) => {
+            generate_and_run(alloc, number, turns, out, err, silicon)
+        }
+        Some(Built::Migrate(old, new)) => migrate_and_say(alloc, old, new, shelf, err),
+        Some(Built::Audit(log)) => audit_and_say(alloc, log, shelf, out, err),
         None => {
             say(err, b"usage\n");
             Status::Usage
@@ -148,7 +146,7 @@ pub fn g5_top<F: Shelf, O: Sink, E: Sink, Z: Silicon>(
     requires silicon { Fresh (Z.seen silicon.old) }
     ensures ends { Ends (asked (map string_bytes words.now)) (F.seen shelf.old) (F.seen shelf.new)
         (O.seen out.old) (O.seen out.new) (E.seen err.old) (E.seen err.new)
-        (Z.seen silicon.new) result }
+        (silicon_after (Z.seen silicon.new) (Z.tape silicon.old) (Z.tape silicon.new)) result }
     ensures untouched { ComesBeforeOutput result
         → Untouched (F.seen shelf.old) (F.seen shelf.new) (O.seen out.old) (O.seen out.new) }
     ensures complete { (names : NamesAsked) (c : Config) (j : Job)
@@ -160,6 +158,9 @@ pub fn g5_top<F: Shelf, O: Sink, E: Sink, Z: Silicon>(
         → asked (map string_bytes words.now) ≡ Some (run names c)
         → IsAccepted names c j (F.seen shelf.old) → Within j.strikes → IsMade result
         → Headline names c j (F.seen shelf.new) (O.seen out.old) (O.seen out.new) }
+    ensures lawful { (names : NamesAsked) (c : Config)
+        → asked (map string_bytes words.now) ≡ Some (run names c) → IsMade result
+        → HasLawfulLog names c (F.seen shelf.new) }
     ensures same { (names : NamesAsked) (c : Config) (j : Job)
         → asked (map string_bytes words.now) ≡ Some (run names c)
         → IsAccepted names c j (F.seen shelf.old) → Within j.strikes → result ≡ Status.Done

@@ -1,9 +1,8 @@
 -- The inputs of a run, read in order. Source: choice of this project.
-use Rattle.std.specs.Prelude.{◌≡◌, ℕ, ◌≤◌, List, length, Some, IsTrue, true, false}
+use Rattle.std.specs.Prelude.{◌≡◌, List, ℕ, IsTrue, true, false}
 use Rattle.g5_outside.specs.Views.{ShelfView}
 use Rattle.g5_outside.specs.Causes.{Rose}
-use Rattle.g5_outside.specs.Calls.{file_named}
-use Rattle.g5_reading.specs.Inputs.{OnlyReads, IsMissing, IsTooLarge}
+use Rattle.g5_reading.specs.Inputs.{IsIn, IsMissing, IsTooLarge}
 use Rattle.program_model.specs.Accepted.{JobBytes}
 use Rattle.program_model.specs.Commands.{SessionNames}
 use Rattle.program_model.specs.Inputs.{limit, session_input}
@@ -20,11 +19,6 @@ job_bytes i = record {
   schedule = i.schedule.items;
   script = i.script.items;
 }
-
--- these are the bytes of the file, within its limit
-pub record IsIn (name : List ℕ) (limit : ℕ) (shelf : ShelfView) (bytes : List ℕ) : Type 0 where
-  pub bound : length bytes ≤ limit
-  pub is : IsTrue shelf.told → file_named name shelf.files ≡ Some bytes
 
 -- the bytes of this input of a run
 abbrev pub IsInput : SessionNames → Input → ShelfView → List ℕ → Type 0
@@ -85,9 +79,3 @@ IsUnread names old new (SourceRefused r) = ⊥
 IsUnread names old new (LinkRefused r) = ⊥
 IsUnread names old new (SaveRefused r) = ⊥
 IsUnread names old new (AuditNo r) = ⊥
-
--- why one input was not read, whichever shelf `start` the inputs before it were read from
-abbrev pub IsUnreadInput : Input → List ℕ → ShelfView → ShelfView → Status → Type 0
-IsUnreadInput input name old new status =
-    (names : SessionNames) → (start : ShelfView) → session_input names input ≡ name
-    → OnlyReads start old → AreBefore names start input → IsUnread names start new status

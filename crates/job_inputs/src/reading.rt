@@ -1,12 +1,11 @@
 // The four inputs, read in order.
-ghost use Rattle.std.specs.Prelude.{◌≡◌, ◌<◌, ◌≤◌, ◌^◌, OnOk, IfOk, IfErr, true};
+ghost use Rattle.std.specs.Prelude.{◌≡◌, OnOk, IfOk, IfErr, true};
 ghost use Rattle.g5_reading.specs.Inputs.{OnlyReads};
-ghost use Rattle.program_model.specs.Inputs.{limit};
 ghost use Rattle.g5_words.specs.Asked.{session_names};
-ghost use Rattle.job_inputs.specs.Reads.{IsIn, AreRead, IsUnread, IsUnreadInput, job_bytes};
+ghost use Rattle.job_inputs.specs.Reads.{AreRead, IsUnread, job_bytes};
 
 use g5_outside::Shelf;
-use g5_reading::{ReadRefusal, read_whole};
+use g5_reading::read_input;
 use g5_words::SessionNames;
 use program_model::inputs::Input;
 use program_model::status::Status;
@@ -19,30 +18,6 @@ pub struct InputBytes {
     pub console: Vec<u8>,
     pub schedule: Vec<u8>,
     pub script: Vec<u8>,
-}
-
-// Reads an input whole, up to its limit.
-#[tactic(auto, using(crate::proofs::InputReads::limit_is_small))]
-fn read_input<F: Shelf>(
-    alloc: Global,
-    shelf: &mut F,
-    input: Input,
-    name: &str,
-) -> Result<Vec<u8>, Status>
-    ensures only { OnlyReads (F.seen shelf.old) (F.seen shelf.new) }
-    ensures bytes { IfOk result (λ bytes.
-        IsIn name.now (limit input) (F.seen shelf.old) bytes.items) }
-    ensures refusal { IfErr result
-        (IsUnreadInput input name.now (F.seen shelf.old) (F.seen shelf.new)) }
-    ensures found { OnOk result ((F.seen shelf.new).found ≡ true) }
-{
-    match read_whole(alloc, shelf, name, input.limit()) {
-        Ok(bytes) => Ok(bytes),
-        Err(ReadRefusal::NoFile) => Err(Status::NoFile(input)),
-        Err(ReadRefusal::Fault) => Err(Status::ReadFault),
-        Err(ReadRefusal::TooLarge) => Err(Status::TooLarge(input)),
-        Err(ReadRefusal::NoMemory) => Err(Status::NoMemory),
-    }
 }
 
 /// Reads deck, console input, schedule and script, each whole up to its limit. A refusal is the

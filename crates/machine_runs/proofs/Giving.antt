@@ -10,15 +10,16 @@ use Rattle.run_model.specs.declared.faults.CoreNo.{CoreNo}
 use Rattle.run_model.specs.declared.logs.Config.{Config}
 use Rattle.run_model.specs.declared.logs.Entry.{Entry}
 use Rattle.run_model.specs.declared.schedules.RunKind.{RunKind}
-use Rattle.run_model.specs.declared.schedules.RunKind.TheVariants.{Turns, Return}
+use Rattle.run_model.specs.declared.schedules.RunKind.TheVariants.{Turns, Key, Return}
 use Rattle.run_model.specs.Cores.{Cores, Met, Outline, belongs, does, is_fenced, make}
 use Rattle.run_model.specs.Places.{Apart}
 use Rattle.run_model.specs.Runs.{Model, Told, turned}
 use Rattle.run_laws.specs.Bounds.{BoundedCpus}
 use Rattle.run_laws.proofs.Standing.{apart_make}
 use Rattle.silicon.specs.Chip.{Chip}
+use Rattle.silicon.specs.Tape.{Tape, tells}
 use Rattle.core_turns.specs.ChipAfter.{Rises}
-use Rattle.core_turns.specs.Handing.{calls_of}
+use Rattle.core_turns.specs.Handing.{calls_of, hands}
 use Rattle.core_turns.specs.Held.{core_of}
 use Rattle.core_turns.specs.Meeting.{TurnGoes, met_on_chip, next_cause, why_met}
 use Rattle.core_turns.specs.declared.held.Held.{Held}
@@ -27,7 +28,7 @@ use Rattle.core_turns.specs.declared.outcomes.Outcome.{Outcome}
 use Rattle.core_turns.specs.declared.outcomes.Outcome.TheVariants.{Committed, Failed, Idle, Retried, Spared, Stopped}
 use Rattle.run_model.specs.declared.faults.Cause.TheVariants as causes
 use Rattle.g5_machine.specs.Standing.{StandsByMode}
-use Rattle.g5_machine.specs.Turning.{FollowsAll, core_at, core_there, entry_if, return_told, told_by}
+use Rattle.g5_machine.specs.Turning.{FollowsAll, HandsAll, core_at, core_there, entry_if, return_told, told_by}
 use Rattle.g5_machine.specs.Turning.{Obeys as MachineObeys}
 use Rattle.g5_machine.specs.declared.machine.Machine.{Machine}
 use Rattle.g5_machine.specs.declared.turns.Turn.{Turn}
@@ -125,7 +126,8 @@ ready_then e e2 z z2 k t ready begun a b turns config o = record {
 -- ---- a turn of any kind, whatever silicon and machine made of it
 
 -- what the machine says of a turn of any kind
-pub record Says (kind : RunKind) (e e2 : TwinMachine) (z z2 : Chip) (t : Told) : Type 0 where
+pub record Says (kind : RunKind) (e e2 : TwinMachine) (z z2 : Chip) (v v2 : Tape) (t : Told) :
+    Type 0 where
   pub lines : z2.lines ≡ z.lines
   pub begun : (c : ℕ) → z2.begun c ≤ z.begun c + 1
   pub calls_a : (plain e2.a).calls ≤ (plain e.a).calls + 1
@@ -135,15 +137,17 @@ pub record Says (kind : RunKind) (e e2 : TwinMachine) (z z2 : Chip) (t : Told) :
   pub obeys : (s : Cores) → StandsByMode e.machine s
       → MachineObeys e.machine.config s kind t e2.machine
   pub follows : FollowsAll z.lines e.machine.config e.machine z kind t e2.machine z2
+  pub hands : HandsAll z.lines e.machine.config e.machine z kind v v2
 
-follows_then : (kind : RunKind) (e e2 : TwinMachine) (z z2 : Chip) (t : Told)
-    → Says kind e e2 z z2 t → (x : Model) → Stands e z x → SoundTurn (view_of e z) x kind
-    → Follows x kind (view_of e z) (view_of e2 z2) t
-follows_then kind e e2 z z2 t said x st sound =
+follows_then : (kind : RunKind) (e e2 : TwinMachine) (z z2 : Chip) (v v2 : Tape) (t : Told)
+    → Says kind e e2 z z2 v v2 t → (x : Model) → Stands e z x
+    → SoundTurn (view_of e z v) x kind → Follows x kind (view_of e z v) (view_of e2 z2 v2) t
+follows_then kind e e2 z z2 v v2 t said x st sound =
     let f = said.follows x st.stands st.bounded sound in
     let y : Model = turned z.lines e.machine.config x kind in
     record {
       told = f.told;
+      handed = said.hands x st.stands st.bounded sound;
       stands = record {
         stands = f.stands;
         bounded = subst (λ ls. BoundedCpus ls e2.machine.config y.fate) (sym said.lines)
@@ -151,19 +155,23 @@ follows_then kind e e2 z z2 t said x st sound =
       };
     }
 
-pub gives_by : (kind : RunKind) (e e2 : TwinMachine) (z z2 : Chip) (t : Told) → IsReady e z
-    → Says kind e e2 z z2 t → FailsAsStruck z.lines t.entries
-    → Gives kind (view_of e z) (view_of e2 z2) t
-gives_by kind e e2 z z2 t ready said struck = record {
+pub gives_by : (kind : RunKind) (e e2 : TwinMachine) (z z2 : Chip) (v v2 : Tape) (t : Told)
+    → IsReady e z → Says kind e e2 z z2 v v2 t → FailsAsStruck z.lines t.entries
+    → Gives kind (view_of e z v) (view_of e2 z2 v2) t
+gives_by kind e e2 z z2 v v2 t ready said struck = record {
   ready = ready_then e e2 z z2 kind t ready said.begun said.calls_a said.calls_b said.turns
       said.config (said.obeys ready.cores ready.by_mode);
   turns = said.turns;
-  kept = record { lines = said.lines; config = said.config };
+  kept = record {
+    lines = said.lines;
+    config = said.config;
+    hands = ap (λ ls. λ (x : Model) (k : RunKind). hands ls x k) said.lines;
+  };
   causes = struck;
   obeys = λ s by.
       let o = said.obeys s by in
       record { met = o.met; outline = o.outline; stands = o.stands };
-  follows = follows_then kind e e2 z z2 t said;
+  follows = follows_then kind e e2 z z2 v v2 t said;
 }
 
 -- ---- a turn of a CPU
@@ -202,7 +210,7 @@ cpu_struck e e2 z cpu turn ready lt config goes why =
     (stamped_struck z.lines (m.counts.turns + 1) i (s.core i) x
     (does m.config.threshold s i x).whats same (does_met m.config.threshold x s i))
 
-pub cpu_says : (e e2 : TwinMachine) (z z2 : Chip) (cpu : CpuNo) (turn : Turn)
+pub cpu_says : (e e2 : TwinMachine) (z z2 : Chip) (v v2 : Tape) (cpu : CpuNo) (turn : Turn)
     → Rises z z2
     → (plain e2.a).calls ≡ (plain e.a).calls + calls_of turn.outcome
     → (plain e2.b).calls ≡ (plain e.b).calls + calls_of turn.outcome
@@ -211,8 +219,9 @@ pub cpu_says : (e e2 : TwinMachine) (z z2 : Chip) (cpu : CpuNo) (turn : Turn)
     → ((s : Cores) → StandsByMode e.machine s
     → MachineObeys e.machine.config s (Turns cpu) (told_by cpu.0 turn) e2.machine)
     → FollowsAll z.lines e.machine.config e.machine z (Turns cpu) (told_by cpu.0 turn) e2.machine z2
-    → Says (Turns cpu) e e2 z z2 (told_by cpu.0 turn)
-cpu_says e e2 z z2 cpu turn rises a b turns config obeys follows = record {
+    → HandsAll z.lines e.machine.config e.machine z (Turns cpu) v v2
+    → Says (Turns cpu) e e2 z z2 v v2 (told_by cpu.0 turn)
+cpu_says e e2 z z2 v v2 cpu turn rises a b turns config obeys follows hands = record {
   lines = rises.lines;
   begun = rises.begun;
   calls_a = calls_more (plain e2.a).calls (plain e.a).calls turn.outcome a;
@@ -221,16 +230,17 @@ cpu_says e e2 z z2 cpu turn rises a b turns config obeys follows = record {
   config = config;
   obeys = obeys;
   follows = follows;
+  hands = hands;
 }
 
 -- ---- turns in which no core takes part
 
-pub plain_says : (kind : RunKind) (e : TwinMachine) (m2 : Machine) (z : Chip) (t : Told)
-    → m2.counts.turns ≡ e.machine.counts.turns + 1 → m2.config ≡ e.machine.config
+pub plain_says : (kind : RunKind) (e : TwinMachine) (m2 : Machine) (z : Chip) (v : Tape)
+    (t : Told) → ((ls : List Strike) (x : Model) → hands ls x kind ≡ []) → m2.counts.turns ≡ e.machine.counts.turns + 1 → m2.config ≡ e.machine.config
     → ((s : Cores) → StandsByMode e.machine s → MachineObeys e.machine.config s kind t m2)
     → FollowsAll z.lines e.machine.config e.machine z kind t m2 z
-    → Says kind e (record e { machine = m2 }) z z t
-plain_says kind e m2 z t turns config obeys follows = record {
+    → Says kind e (record e { machine = m2 }) z z v v t
+plain_says kind e m2 z v t none turns config obeys follows = record {
   lines = refl;
   begun = λ c. omega arith;
   calls_a = omega arith;
@@ -239,7 +249,16 @@ plain_says kind e m2 z t turns config obeys follows = record {
   config = config;
   obeys = obeys;
   follows = follows;
+  hands = λ x st bounded sound. ap (tells v) (sym (none z.lines x));
 }
+
+pub key_hands : (cpu : CpuNo) (ls : List Strike) (x : Model) → hands ls x (Key cpu) ≡ []
+unfolding hands
+key_hands cpu ls x = refl
+
+pub return_hands : (core : CoreNo) (ls : List Strike) (x : Model) → hands ls x (Return core) ≡ []
+unfolding hands
+return_hands core ls x = refl
 
 pub none_struck : (ls : List Strike) → FailsAsStruck ls []
 none_struck ls = All-nil (λ (y : Entry). IsStruck ls y.core.0 y.what)

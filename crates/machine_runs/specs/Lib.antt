@@ -1,2 +1,4 @@
 pub mod Views
 pub mod Whole
+pub mod RunTells
+pub mod Jobs

@@ -7,6 +7,8 @@ use Rattle.run_model.specs.Places.{Apart}
 use Rattle.run_model.specs.Runs.{Model, Told}
 use Rattle.run_laws.specs.Bounds.{BoundedCpus}
 use Rattle.silicon.specs.Chip.{Chip}
+use Rattle.silicon.specs.Tape.{Tape}
+use Rattle.core_turns.specs.Handing.{hands}
 use Rattle.twin_units.specs.UnitsSeen.{plain}
 use Rattle.g5_machine.specs.Standing.{StandsFor, StandsByMode}
 use Rattle.run_loop.specs.Engines.{EngineView, FailsAsStruck, Follows, Kept, Obeys, SoundTurn}
@@ -27,14 +29,16 @@ pub record Stands (e : TwinMachine) (z : Chip) (x : Model) : Type 0 where
   pub stands : StandsFor e.machine z x
   pub bounded : BoundedCpus z.lines e.machine.config x.fate
 
-abbrev pub view_of : TwinMachine → Chip → EngineView
-view_of e z = record {
+abbrev pub view_of : TwinMachine → Chip → Tape → EngineView
+view_of e z t = record {
   lines = z.lines;
   config = e.machine.config;
   turns = e.machine.counts.turns;
+  tape = t;
   ready = IsReady e z;
   stands_by_mode = λ s. StandsByMode e.machine s;
   stands = λ x. Stands e z x;
+  hands = λ x kind. hands z.lines x kind;
 }
 
 -- what a turn of this kind gives: all that is asked of what makes turns

@@ -32,8 +32,9 @@ impl TwinMachine {
         requires ready { IsReady self.old (Z.seen silicon.old) }
         requires known { cpu.0 < self.old.machine.config.cpus }
         requires room { self.old.machine.counts.turns < 2 ^ 47 }
-        ensures gives { Gives (kinds.Turns cpu) (view_of self.old (Z.seen silicon.old))
-            (view_of self.new (Z.seen silicon.new)) (told_of result) }
+        ensures gives { Gives (kinds.Turns cpu)
+            (view_of self.old (Z.seen silicon.old) (Z.tape silicon.old))
+            (view_of self.new (Z.seen silicon.new) (Z.tape silicon.new)) (told_of result) }
         ensures stretches { length (stretches result.written.changed.items) ≤ 135 }
     {
         let turn = self.machine.turn(cpu, silicon, &mut self.a, &mut self.b);

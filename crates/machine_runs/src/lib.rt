@@ -3,8 +3,10 @@
 
 mod cpu_turns;
 mod other_turns;
+mod ready;
 mod twin_machine;
 mod whole;
 
+pub use ready::{Ready, make_ready};
 pub use twin_machine::TwinMachine;
 pub use whole::make_whole;

@@ -4,6 +4,7 @@ ghost use Rattle.esa_model.specs.Changes.{stretches};
 ghost use Rattle.run_model.specs.Runs.{tells_nothing_else};
 ghost use Rattle.run_model.specs.declared.schedules.RunKind.TheVariants as kinds;
 ghost use Rattle.silicon.specs.Chip.{Chip};
+ghost use Rattle.silicon.specs.Tape.{Tape};
 ghost use Rattle.g5_machine.specs.Turning.{entry_if};
 ghost use Rattle.run_loop.specs.Engines.{told_of};
 ghost use Rattle.machine_runs.specs.Views.{Gives, IsReady, view_of};
@@ -51,8 +52,9 @@ impl TwinMachine {
     pub(crate) fn turn_of_key(&mut self, cpu: CpuNo) -> Turn
         requires known { cpu.0 < self.old.machine.config.cpus }
         requires room { self.old.machine.counts.turns < 2 ^ 47 }
-        ensures gives { (z : Chip) → IsReady self.old z
-            → Gives (kinds.Key cpu) (view_of self.old z) (view_of self.new z) (told_of result) }
+        ensures gives { (z : Chip) (t : Tape) → IsReady self.old z
+            → Gives (kinds.Key cpu) (view_of self.old z t) (view_of self.new z t)
+            (told_of result) }
         ensures stretches { length (stretches result.written.changed.items) ≤ 135 }
     {
         self.machine.key(cpu);
@@ -63,8 +65,8 @@ impl TwinMachine {
     pub(crate) fn turn_of_return(&mut self, core: CoreNo) -> Turn
         requires known { core.0 < 16 }
         requires room { self.old.machine.counts.turns < 2 ^ 47 }
-        ensures gives { (z : Chip) → IsReady self.old z
-            → Gives (kinds.Return core) (view_of self.old z) (view_of self.new z)
+        ensures gives { (z : Chip) (t : Tape) → IsReady self.old z
+            → Gives (kinds.Return core) (view_of self.old z t) (view_of self.new z t)
             (told_of result) }
         ensures stretches { length (stretches result.written.changed.items) ≤ 135 }
     {

@@ -49,7 +49,7 @@ impl TwinMachine {
 impl Engine for TwinMachine {
     ghost use Rattle.machine_runs.specs.Views.{view_of};
 
-    ghost seen = { λ e z. view_of e z };
+    ghost seen = { λ e z t. view_of e z t };
 
     fn turn<Z: Silicon>(&mut self, silicon: &mut Z, kind: RunKind) -> Turn {
         match kind {

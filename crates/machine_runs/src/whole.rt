@@ -69,7 +69,8 @@ pub fn make_whole<F: Shelf, O: Sink, Z: Silicon>(
     requires few { turns_of schedule.now ≤ 1000000 }
     requires files { HasFiles (F.seen shelf.old) files }
     ensures { MakesWhole files (kinds_of schedule.now)
-        (view_of machine.old (Z.seen silicon.old)) (view_of machine.new (Z.seen silicon.new))
+        (view_of machine.old (Z.seen silicon.old) (Z.tape silicon.old))
+        (view_of machine.new (Z.seen silicon.new) (Z.tape silicon.new))
         (F.seen shelf.old) (F.seen shelf.new) (O.seen out.old) (O.seen out.new) result }
 {
     match write_head(shelf, out, files, machine.config()) {

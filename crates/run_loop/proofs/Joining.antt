@@ -11,6 +11,10 @@ use Rattle.run_model.specs.Fate.{Sound}
 use Rattle.run_model.specs.Runs.{Model, Told, entries, tells, turned, run_tells, run_after}
 use Rattle.run_model.specs.Texts.{turn_pieces, turns_pieces}
 use Rattle.run_laws.proofs.Sound.{sound_before}
+use Rattle.run_loop.specs.Engines.{EngineView}
+use Rattle.run_loop.specs.Making.{hands_by, state_by}
+use Rattle.silicon.specs.Tape.{Tape, tell, tells as tells_tape}
+use Rattle.silicon.specs.declared.handed.Handed.{Handed}
 
 pub outlines_append : (c : Config) (s : Cores) (xs ys : List Choice)
     → outlines c s (xs ++ ys) ≡ outlines c s xs ++ outlines c (cores_after c s xs) ys
@@ -35,6 +39,19 @@ pub tells_append : (ls : List Strike) (c : Config) (x : Model) (ks js : List Run
 tells_append ls c x [] js = refl
 tells_append ls c x (k ∷ ks) js =
     ap (λ z. tells ls c x k ∷ z) (tells_append ls c (turned ls c x k) ks js)
+
+pub hands_append : (v : EngineView) (x : Model) (ks js : List RunKind)
+    → hands_by v x (ks ++ js) ≡ hands_by v x ks ++ hands_by v (state_by v x ks) js
+hands_append v x [] js = refl
+hands_append v x (k ∷ ks) js =
+    let y : Model = turned v.lines v.config x k in
+    ap (λ z. v.hands x k ++ z) (hands_append v y ks js)
+    ∙ sym (append_assoc (v.hands x k) (hands_by v y ks) (hands_by v (state_by v y ks) js))
+
+pub tape_append : (t : Tape) (xs ys : List Handed)
+    → tells_tape t (xs ++ ys) ≡ tells_tape (tells_tape t xs) ys
+tape_append t [] ys = refl
+tape_append t (x ∷ xs) ys = tape_append (tell t x) xs ys
 
 pub entries_append : (ts us : List Told) → entries (ts ++ us) ≡ entries ts ++ entries us
 entries_append [] us = refl

@@ -12,19 +12,21 @@ use Rattle.run_model.specs.Cores.{Cores, Choice, outlines, cores_after}
 use Rattle.run_model.specs.Fate.{Sound}
 use Rattle.run_model.specs.Runs.{Model, Told, entries, tells, turned, run_tells, run_after, outline_of}
 use Rattle.run_loop.specs.Engines.{EngineView, FailsAsStruck, IsStruck, Kept, Obeys, Follows, SoundTurn}
-use Rattle.run_loop.specs.Making.{ByMode, Tells, SoundAfter, tells_by, state_by}
-use Rattle.run_loop.proofs.Joining.{outlines_append, cores_append, after_append, entries_append, tells_append, sound_run}
+use Rattle.silicon.specs.Tape.{tells as tells_tape}
+use Rattle.run_loop.specs.Making.{ByMode, Tells, SoundAfter, hands_by, tells_by, state_by}
+use Rattle.run_loop.proofs.Joining.{outlines_append, cores_append, after_append, entries_append, hands_append, tape_append, tells_append, sound_run}
 
 pub tells_none : (old : EngineView) → Tells [] [] old old
 tells_none old = record {
   each = refl;
   turns = omega arith;
-  kept = record { lines = refl; config = refl };
+  kept = record { lines = refl; config = refl; hands = refl };
   struck = All-nil (λ (e : Entry). IsStruck old.lines e.core.0 e.what);
   by_mode = λ s h. record { choices = []; kinds_are = refl; outlines_are = refl; stands = h };
   fronts = λ x h j le sound.
       let none : j ≡ 0 = omega (arith, le) in
       subst (λ n. take n [] ≡ tells_by old x (take n [])) (sym none) refl;
+  handed = λ x h sound. refl;
   stands = λ x h sound. h;
 }
 
@@ -60,6 +62,8 @@ tells_one k t old new turns kept struck obeys follows = record {
       };
   fronts = λ x h j le sound.
       one_front x k t old j le (λ here. (follows x h here).told) sound;
+  handed = λ x h sound.
+      (follows x h sound).handed ∙ ap (tells_tape old.tape) (sym (append-nil (old.hands x k)));
   stands = λ x h sound. (follows x h sound).stands;
 }
 
@@ -170,6 +174,34 @@ seam_stands x ks js ts us old mid new a b h sound =
     (same_state y js old mid a.kept ∙ sym (after_append old.lines old.config x ks js))
     (b.stands y (a.stands x h before) there)
 
+-- what turns after turns handed in
+same_hands : (x : Model) (js : List RunKind) (old mid : EngineView) → Kept old mid
+    → hands_by mid x js ≡ hands_by old x js
+same_hands x [] old mid kept = refl
+same_hands x (j ∷ js) old mid kept =
+    let next : turned mid.lines mid.config x j ≡ turned old.lines old.config x j =
+    ap (λ l. turned l mid.config x j) kept.lines ∙ ap (λ c. turned old.lines c x j) kept.config in
+    ap (λ f. f x j ++ hands_by mid (turned mid.lines mid.config x j) js) kept.hands
+    ∙ ap (λ z. old.hands x j ++ z)
+    (ap (λ y. hands_by mid y js) next
+    ∙ same_hands (turned old.lines old.config x j) js old mid kept)
+
+seam_handed : (x : Model) (ks js : List RunKind) (ts us : List Told) (old mid new : EngineView)
+    → Tells ks ts old mid → Tells js us mid new → old.stands x → SoundAfter old x (ks ++ js)
+    → new.tape ≡ tells_tape old.tape (hands_by old x (ks ++ js))
+seam_handed x ks js ts us old mid new a b h sound =
+    let y : Model = state_by old x ks in
+    let there : SoundAfter mid y js = seam_sound x ks js old mid a.kept sound in
+    let before : SoundAfter old x ks =
+    sound_run old.lines old.config y js
+    (subst (λ z. Sound old.lines z.fate) (after_append old.lines old.config x ks js) sound) in
+    b.handed y (a.stands x h before) there
+    ∙ ap (λ t. tells_tape t (hands_by mid y js)) (a.handed x h before)
+    ∙ ap (λ hs. tells_tape (tells_tape old.tape (hands_by old x ks)) hs)
+    (same_hands y js old mid a.kept)
+    ∙ sym (tape_append old.tape (hands_by old x ks) (hands_by old y js))
+    ∙ ap (tells_tape old.tape) (sym (hands_append old x ks js))
+
 -- no failure in either without its strike
 struck_then : (ts us : List Told) (old mid : EngineView) → Kept old mid
     → FailsAsStruck old.lines (entries ts) → FailsAsStruck mid.lines (entries us)
@@ -190,6 +222,7 @@ tells_then ks js ts us old mid new a b =
       kept = record {
         lines = b.kept.lines ∙ a.kept.lines;
         config = b.kept.config ∙ a.kept.config;
+        hands = b.kept.hands ∙ a.kept.hands;
       };
       struck = struck_then ts us old mid a.kept a.struck b.struck;
       by_mode = λ s h. by_mode_then s ks js ts us old mid new a.kept (a.by_mode s h) b.by_mode;
@@ -197,5 +230,6 @@ tells_then ks js ts us old mid new a b =
         | inl lt ↦ long_front x ks js ts us old mid new j a b h lt le sound
         | inr small ↦ short_front x ks js ts us old mid j a h small sound
       ];
+      handed = λ x h sound. seam_handed x ks js ts us old mid new a b h sound;
       stands = λ x h sound. seam_stands x ks js ts us old mid new a b h sound;
     }

@@ -1,5 +1,5 @@
 -- What turns that were made tell and write, for every fault script. Source: choice of this project.
-use Rattle.std.specs.Prelude.{◌≡◌, ℕ, ◌+◌, ◌≤◌, List, length, take, map, Result, IfOk, OnOk}
+use Rattle.std.specs.Prelude.{◌≡◌, ℕ, ◌+◌, ◌≤◌, List, [], ◌∷◌, ◌++◌, length, take, map, Result, IfOk, OnOk}
 use Rattle.g5_outside.specs.Views.{ShelfView, SinkView}
 use Rattle.g5_writing.specs.Outputs.{Puts}
 use Rattle.g5_writing.specs.declared.outputs.OutputFiles.{OutputFiles}
@@ -8,8 +8,10 @@ use Rattle.run_model.specs.declared.schedules.RunKind.{RunKind}
 use Rattle.run_model.specs.Cores.{Cores, Choice, outlines, cores_after}
 use Rattle.run_model.specs.Counts.{count_turn, count_turns, none_made}
 use Rattle.run_model.specs.Fate.{Sound}
-use Rattle.run_model.specs.Runs.{Model, Told, entries, run_tells, run_after, outline_of}
+use Rattle.run_model.specs.Runs.{Model, Told, entries, run_tells, run_after, turned, outline_of}
 use Rattle.run_model.specs.Texts.{turn_pieces, turns_pieces}
+use Rattle.silicon.specs.Tape.{tells as tells_tape}
+use Rattle.silicon.specs.declared.handed.Handed.{Handed}
 use Rattle.run_loop.specs.Engines.{EngineView, FailsAsStruck, Kept, Obeys, Follows, SoundTurn}
 
 -- what was told is what these cores make of what the turns met
@@ -29,7 +31,13 @@ tells_by v x kinds = run_tells v.lines v.config x kinds
 abbrev pub state_by : EngineView → Model → List RunKind → Model
 state_by v x kinds = run_after v.lines v.config x kinds
 
--- Turns of these kinds told this. As far as they are sound, each told what the definition says.
+-- what the turns of the definition's run hand in to the silicon, in their order
+abbrev pub hands_by : EngineView → Model → List RunKind → List Handed
+hands_by v x [] = []
+hands_by v x (k ∷ ks) = v.hands x k ++ hands_by v (turned v.lines v.config x k) ks
+
+-- Turns of these kinds told this. As far as they are sound, each told what the definition says; and
+-- where all are sound, they handed in what it says.
 pub record Tells (kinds : List RunKind) (told : List Told) (old new : EngineView) : Type 0 where
   pub each : length told ≡ length kinds
   pub turns : new.turns ≡ old.turns + length kinds
@@ -38,6 +46,8 @@ pub record Tells (kinds : List RunKind) (told : List Told) (old new : EngineView
   pub by_mode : (s : Cores) → old.stands_by_mode s → ByMode s kinds told old new
   pub fronts : (x : Model) → old.stands x → (j : ℕ) → j ≤ length kinds
       → SoundAfter old x (take j kinds) → take j told ≡ tells_by old x (take j kinds)
+  pub handed : (x : Model) → old.stands x → SoundAfter old x kinds
+      → new.tape ≡ tells_tape old.tape (hands_by old x kinds)
   pub stands : (x : Model) → old.stands x → SoundAfter old x kinds
       → new.stands (state_by old x kinds)
 

@@ -5,6 +5,7 @@ ghost use Rattle.run_model.specs.Cores.{Cores};
 ghost use Rattle.run_model.specs.Runs.{Model};
 ghost use Rattle.run_model.specs.Schedule.{Fits};
 ghost use Rattle.silicon.specs.Chip.{Chip};
+ghost use Rattle.silicon.specs.Tape.{Tape};
 ghost use Rattle.run_loop.specs.Engines.{EngineView, FailsAsStruck, Kept, Obeys, Follows, SoundTurn, told_of};
 
 use arrayvec::ArrayVec;
@@ -25,27 +26,31 @@ pub struct Turn {
 
 /// A machine that makes the turns of a schedule under a fault script, on silicon that is lent to each.
 pub trait Engine {
-    /// What clauses see of it on a silicon.
-    ghost seen: { Self → Chip → EngineView };
+    /// What clauses see of it on a silicon, and on what the silicon tells of what was handed in.
+    ghost seen: { Self → Chip → Tape → EngineView };
 
     /// Makes one turn: of a CPU, of the interrupt key of a CPU, or of the return of a core.
     fn turn<Z: Silicon>(&mut self, silicon: &mut Z, kind: RunKind) -> Turn
-        requires ready { (seen self.old (Z.seen silicon.old)).ready }
-        requires fits { Fits (seen self.old (Z.seen silicon.old)).config.cpus kind }
-        requires room { (seen self.old (Z.seen silicon.old)).turns < 2 ^ 47 }
-        ensures ready { (seen self.new (Z.seen silicon.new)).ready }
-        ensures turns { (seen self.new (Z.seen silicon.new)).turns
-            ≡ (seen self.old (Z.seen silicon.old)).turns + 1 }
-        ensures kept { Kept (seen self.old (Z.seen silicon.old))
-            (seen self.new (Z.seen silicon.new)) }
+        requires ready { (seen self.old (Z.seen silicon.old) (Z.tape silicon.old)).ready }
+        requires fits { Fits
+            (seen self.old (Z.seen silicon.old) (Z.tape silicon.old)).config.cpus kind }
+        requires room { (seen self.old (Z.seen silicon.old) (Z.tape silicon.old)).turns < 2 ^ 47 }
+        ensures ready { (seen self.new (Z.seen silicon.new) (Z.tape silicon.new)).ready }
+        ensures turns { (seen self.new (Z.seen silicon.new) (Z.tape silicon.new)).turns
+            ≡ (seen self.old (Z.seen silicon.old) (Z.tape silicon.old)).turns + 1 }
+        ensures kept { Kept (seen self.old (Z.seen silicon.old) (Z.tape silicon.old))
+            (seen self.new (Z.seen silicon.new) (Z.tape silicon.new)) }
         ensures stretches { length (stretches result.written.changed.items) ≤ 135 }
-        ensures causes { FailsAsStruck (seen self.old (Z.seen silicon.old)).lines
+        ensures causes { FailsAsStruck
+            (seen self.old (Z.seen silicon.old) (Z.tape silicon.old)).lines
             result.entries.items }
-        ensures obeys { (s : Cores) → (seen self.old (Z.seen silicon.old)).stands_by_mode s
-            → Obeys s kind (seen self.old (Z.seen silicon.old))
-            (seen self.new (Z.seen silicon.new)) (told_of result) }
-        ensures follows { (x : Model) → (seen self.old (Z.seen silicon.old)).stands x
-            → SoundTurn (seen self.old (Z.seen silicon.old)) x kind
-            → Follows x kind (seen self.old (Z.seen silicon.old))
-            (seen self.new (Z.seen silicon.new)) (told_of result) };
+        ensures obeys { (s : Cores)
+            → (seen self.old (Z.seen silicon.old) (Z.tape silicon.old)).stands_by_mode s
+            → Obeys s kind (seen self.old (Z.seen silicon.old) (Z.tape silicon.old))
+            (seen self.new (Z.seen silicon.new) (Z.tape silicon.new)) (told_of result) }
+        ensures follows { (x : Model)
+            → (seen self.old (Z.seen silicon.old) (Z.tape silicon.old)).stands x
+            → SoundTurn (seen self.old (Z.seen silicon.old) (Z.tape silicon.old)) x kind
+            → Follows x kind (seen self.old (Z.seen silicon.old) (Z.tape silicon.old))
+            (seen self.new (Z.seen silicon.new) (Z.tape silicon.new)) (told_of result) };
 }

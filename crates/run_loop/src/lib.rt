@@ -9,7 +9,7 @@ mod running;
 mod turning;
 mod writing;
 
-pub use counting::none_made;
+pub use counting::{count_turn, none_made};
 pub use engine::{Engine, Turn};
 pub use laws::{
     counts_of_sound_turns, failures_have_strikes, front_of_turns, lawful_and_few_retries,

@@ -25,17 +25,20 @@ pub fn make_run<E: Engine, Z: Silicon, F: Shelf, O: Sink>(
     run: Run,
     start: Counts,
 ) -> Result<Counts, Failed>
-    requires ready { (E.seen engine.old (Z.seen silicon.old)).ready }
-    requires fits { Fits (E.seen engine.old (Z.seen silicon.old)).config.cpus run.what }
-    requires room { (E.seen engine.old (Z.seen silicon.old)).turns + run.count ≤ 2 ^ 47 }
+    requires ready { (E.seen engine.old (Z.seen silicon.old) (Z.tape silicon.old)).ready }
+    requires fits { Fits (E.seen engine.old (Z.seen silicon.old) (Z.tape silicon.old)).config.cpus
+        run.what }
+    requires room { (E.seen engine.old (Z.seen silicon.old) (Z.tape silicon.old)).turns + run.count
+        ≤ 2 ^ 47 }
     requires files { HasFiles (F.seen shelf.old) files }
     requires below { Below (2 ^ 61) start }
     requires commits { start.commits + run.count ≤ 1000000 }
-    ensures ready { (E.seen engine.new (Z.seen silicon.new)).ready }
+    ensures ready { (E.seen engine.new (Z.seen silicon.new) (Z.tape silicon.new)).ready }
     ensures small { IfOk result
         (λ n. (most : ℕ) → Below most start → Below (most + 45 * run.count) n) }
     ensures makes { MakesFrom files start (replicate run.count run.what)
-        (E.seen engine.old (Z.seen silicon.old)) (E.seen engine.new (Z.seen silicon.new))
+        (E.seen engine.old (Z.seen silicon.old) (Z.tape silicon.old))
+        (E.seen engine.new (Z.seen silicon.new) (Z.tape silicon.new))
         (F.seen shelf.old) (F.seen shelf.new) (O.seen out.old) (O.seen out.new) result }
 {
     let mut sum = start;
@@ -63,15 +66,18 @@ pub fn make_runs<E: Engine, Z: Silicon, F: Shelf, O: Sink>(
     runs: &[Run],
     start: Counts,
 ) -> Result<Counts, Failed>
-    requires ready { (E.seen engine.old (Z.seen silicon.old)).ready }
-    requires fits { All (λ (r : Run). Fits (E.seen engine.old (Z.seen silicon.old)).config.cpus r.what) runs.now }
-    requires room { (E.seen engine.old (Z.seen silicon.old)).turns + turns_of runs.now ≤ 2 ^ 47 }
+    requires ready { (E.seen engine.old (Z.seen silicon.old) (Z.tape silicon.old)).ready }
+    requires fits { All (λ (r : Run). Fits
+        (E.seen engine.old (Z.seen silicon.old) (Z.tape silicon.old)).config.cpus r.what) runs.now }
+    requires room { (E.seen engine.old (Z.seen silicon.old) (Z.tape silicon.old)).turns
+        + turns_of runs.now ≤ 2 ^ 47 }
     requires files { HasFiles (F.seen shelf.old) files }
     requires below { Below (2 ^ 60) start }
     requires commits { start.commits + turns_of runs.now ≤ 1000000 }
-    ensures ready { (E.seen engine.new (Z.seen silicon.new)).ready }
+    ensures ready { (E.seen engine.new (Z.seen silicon.new) (Z.tape silicon.new)).ready }
     ensures makes { MakesFrom files start (kinds_of runs.now)
-        (E.seen engine.old (Z.seen silicon.old)) (E.seen engine.new (Z.seen silicon.new))
+        (E.seen engine.old (Z.seen silicon.old) (Z.tape silicon.old))
+        (E.seen engine.new (Z.seen silicon.new) (Z.tape silicon.new))
         (F.seen shelf.old) (F.seen shelf.new) (O.seen out.old) (O.seen out.new) result }
 {
     let mut sum = start;

@@ -118,13 +118,15 @@ fn played(number: u64) -> Turn
 }
 
 impl Engine for Player {
-    ghost seen = { λ p z. record {
+    ghost seen = { λ p z t. record {
       lines = [];
       config = record { cpus = 2; spares = 2; pages = 32; threshold = 3 };
       turns = p.made;
+      tape = t;
       ready = Unit {0};
       stands_by_mode = λ s. ⊥;
       stands = λ x. ⊥;
+      hands = λ x kind. [];
     } };
 
     fn turn<Z: Silicon>(&mut self, _silicon: &mut Z, _kind: RunKind) -> Turn {

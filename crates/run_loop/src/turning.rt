@@ -24,17 +24,19 @@ pub fn make_turn<E: Engine, Z: Silicon, F: Shelf, O: Sink>(
     kind: RunKind,
     before: Counts,
 ) -> Result<Counts, Failed>
-    requires ready { (E.seen engine.old (Z.seen silicon.old)).ready }
-    requires fits { Fits (E.seen engine.old (Z.seen silicon.old)).config.cpus kind }
-    requires room { (E.seen engine.old (Z.seen silicon.old)).turns < 2 ^ 47 }
+    requires ready { (E.seen engine.old (Z.seen silicon.old) (Z.tape silicon.old)).ready }
+    requires fits { Fits (E.seen engine.old (Z.seen silicon.old) (Z.tape silicon.old)).config.cpus
+        kind }
+    requires room { (E.seen engine.old (Z.seen silicon.old) (Z.tape silicon.old)).turns < 2 ^ 47 }
     requires files { HasFiles (F.seen shelf.old) files }
     requires below { Below (2 ^ 62) before }
     requires commits { before.commits < 1000000 }
-    ensures ready { (E.seen engine.new (Z.seen silicon.new)).ready }
+    ensures ready { (E.seen engine.new (Z.seen silicon.new) (Z.tape silicon.new)).ready }
     ensures small { IfOk result
         (λ after. (most : ℕ) → Below most before → Below (most + 45) after) }
     ensures makes { MakesTurn files kind before
-        (E.seen engine.old (Z.seen silicon.old)) (E.seen engine.new (Z.seen silicon.new))
+        (E.seen engine.old (Z.seen silicon.old) (Z.tape silicon.old))
+        (E.seen engine.new (Z.seen silicon.new) (Z.tape silicon.new))
         (F.seen shelf.old) (F.seen shelf.new) (O.seen out.old) (O.seen out.new) result }
 {
     let turn = engine.turn(silicon, kind);

@@ -21,6 +21,5 @@ pub mod Faultless
 pub mod Lawful
 pub mod WorkedFates
 pub mod Texts
-pub mod PlainRuns
 pub mod Pieces
 pub mod Trace

@@ -1,7 +1,7 @@
 -- The premise on a fault script, bit by bit. Source: choice of this project. A bit that is struck
 -- twice at one place and attempt is not flipped. The premise: where the two units of a core are
 -- struck alike at an attempt, neither is struck, since the comparison would not see it; and at most
--- two strikes fall on a checkpoint word in 16 attempts, since the code shows no more.
+-- two strikes fall on a checkpoint word in 16 attempts from 16k on, since the code shows no more.
 use Rattle.std.specs.Prelude.{ℕ, ◌+◌, ◌/◌, ◌%◌, ◌<◌, ◌≤◌, ◌≡◌, Bool, true, false, ◌&&◌, ◌==◌, nat_lt, nat_le, List, [], ◌∷◌, Option, Some, None, count_by, refl}
 use Rattle.run_model.specs.Script.{core_no}
 use Rattle.run_model.specs.declared.faults.Unit.{Unit}

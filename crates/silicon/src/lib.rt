@@ -8,7 +8,6 @@ ghost use Rattle.silicon.specs.Chip.{passed_fetch, passed_packet, passed_store};
 ghost use Rattle.silicon.specs.Tape.{Tape, tell};
 ghost use Rattle.silicon.specs.declared.handed.Handed.TheVariants as handed;
 
-mod cursors;
 mod handed;
 mod landing;
 mod laws;
@@ -17,6 +16,7 @@ mod script_silicon;
 mod tap_silicon;
 #[cfg(test)]
 mod tests;
+mod walks;
 
 use fault_script::{Script, Unit};
 pub use handed::Handed;

@@ -2,46 +2,42 @@
 
 ghost use Rattle.std.specs.Prelude.{◌≡◌, ◌+◌, ◌<◌, None, replicate};
 ghost use Rattle.run_model.specs.Script.{InForm};
-ghost use Rattle.silicon.specs.Lines.{lines_of, form_prop};
-ghost use Rattle.silicon.specs.Places.{Follow};
+ghost use Rattle.silicon.specs.Lines.{lines_of, Follow, form_prop, follow_prop};
 
 use crate::Silicon;
-use crate::cursors::{next, starts};
 use crate::landing::{fetch_struck, land, store_struck, strike_packet};
 use crate::passing::{strike_fetch, strike_store};
-use fault_script::{Cursor, Script, Unit};
+use crate::walks::begin;
+use fault_script::{Script, Unit, Walk};
 use result_packet::{FetchLatch, Packet, StoreLatch};
 use run_model::faults::CoreNo;
 
 /// A silicon that lands the strikes of a script.
 #[derive(Drop)]
 pub struct ScriptSilicon {
-    pub(crate) script: Option<Script>,
+    pub(crate) walk: Option<Walk>,
     pub(crate) begun: [u64; 16],
-    pub(crate) cursors: [Cursor; 16],
     pub(crate) words: [u128; 640],
-    ghost form: { InForm (lines_of script) } by { form_prop (lines_of script) },
-    ghost follow: { Follow (lines_of script) begun cursors },
+    ghost form: { InForm (lines_of walk) } by { form_prop (lines_of walk) },
+    ghost follow: { Follow walk begun } by { follow_prop walk begun },
 }
 
 fn blank() -> ScriptSilicon
-    ensures script { result.script ≡ None }
+    ensures walk { result.walk ≡ None }
     ensures begun { result.begun ≡ replicate 16 0 }
     ensures words { result.words ≡ replicate 640 0 }
 {
     ScriptSilicon {
-        script: None,
+        walk: None,
         begun: [0; 16],
-        cursors: [Cursor::nowhere(); 16],
         words: [0; 640],
     }
 }
 
 impl ScriptSilicon {
     ghost use Rattle.std.specs.Prelude.{◌≡◌, ◌+◌, ◌<◌};
-    ghost use Rattle.fault_script.specs.Walk.{IsAt};
     ghost use Rattle.silicon.specs.Chip.{Fresh, last};
-    ghost use Rattle.silicon.specs.Lines.{lines_of};
+    ghost use Rattle.silicon.specs.Lines.{IsWalked};
     ghost use Rattle.silicon.specs.Seen.{chip};
 
     /// Fresh silicon: no script, no attempt begun, zero in every word.
@@ -51,15 +47,14 @@ impl ScriptSilicon {
         blank()
     }
 
-    // The last attempt of a core that was begun, and where its strikes stand.
-    fn last(&self, core: CoreNo) -> (u64, Cursor)
+    // The last attempt of a core that was begun.
+    fn last(&self, core: CoreNo) -> u64
         requires core { core.0 < 16 }
         requires begun { 0 < (chip self.now).begun core.0 }
-        ensures attempt { result.0 ≡ last (chip self.now) core.0 }
-        ensures at { IsAt (lines_of self.now.script) core.0 (result.0 + 1) result.1 }
+        ensures attempt { result ≡ last (chip self.now) core.0 }
+        ensures walked { IsWalked self.now.walk core.0 (result + 1) }
     {
-        let i = core.0 as usize;
-        (self.begun[i] - 1, self.cursors[i])
+        self.begun[core.0 as usize] - 1
     }
 }
 
@@ -72,10 +67,7 @@ impl Silicon for ScriptSilicon {
     ghost tape = { λ s. empty 0 };
 
     fn arm(&mut self, script: Script) {
-        // its strikes are in form
-        let _ = script.strikes();
-        self.cursors = starts(&script);
-        self.script = Some(script);
+        self.walk = Some(script.walk());
     }
 
     fn begun(&self, core: CoreNo) -> u64 {
@@ -85,28 +77,27 @@ impl Silicon for ScriptSilicon {
     fn begin(&mut self, core: CoreNo) {
         let i = core.0 as usize;
         let n = self.begun[i];
-        let at = next(&self.script, self.cursors[i], core, n);
-        land(&mut self.words, &self.script, at, core, n);
-        self.cursors[i] = at;
+        begin(&mut self.walk, core, n);
+        land(&mut self.words, &self.walk, core, n);
         self.begun[i] = n + 1;
     }
 
     #[tactic(auto, unfolding(crate::specs::Tape::tell))]
     fn pass_fetch(&mut self, core: CoreNo, latch: &mut FetchLatch) {
-        let (n, at) = self.last(core);
-        strike_fetch(latch, fetch_struck(&self.script, at, core, n));
+        let n = self.last(core);
+        strike_fetch(latch, fetch_struck(&self.walk, core, n));
     }
 
     #[tactic(auto, unfolding(crate::specs::Tape::tell))]
     fn pass(&mut self, core: CoreNo, unit: Unit, packet: &mut Packet) {
-        let (n, at) = self.last(core);
-        strike_packet(packet, &self.script, at, core, unit, n);
+        let n = self.last(core);
+        strike_packet(packet, &self.walk, core, unit, n);
     }
 
     #[tactic(auto, unfolding(crate::specs::Tape::tell))]
     fn pass_store(&mut self, core: CoreNo, latch: &mut StoreLatch) {
-        let (n, at) = self.last(core);
-        strike_store(latch, store_struck(&self.script, at, core, n));
+        let n = self.last(core);
+        strike_store(latch, store_struck(&self.walk, core, n));
     }
 
     fn put_word(&mut self, core: CoreNo, word: u8, stored: u128) {

@@ -1,5 +1,5 @@
-use Rattle.fault_script.specs.Walk.{IsAt}
+use Rattle.fault_script.specs.Walks.{IsOn}
 use Rattle.fault_script.proofs.tests.after.Given as goal
 
 abbrev pub invariant-loop-n : goal.invariant-loop-n
-invariant-loop-n l = IsAt l.script l.core.0 l.n l.at
+invariant-loop-n l = IsOn l.walk l.core.0 l.n

@@ -1,7 +1,8 @@
+use Rattle.g5_run.specs.Leaving.{silicon_after}
 use Rattle.std.specs.Prelude.{map, string_bytes}
 use Rattle.g5_run.specs.Asked.{asked}
 use Rattle.g5_run.proofs.Consequences.{ends_untouched, ends_complete}
-use Rattle.g5_run.proofs.Headed.{ends_headline, ends_same}
+use Rattle.g5_run.proofs.Headed.{ends_headline, ends_lawful, ends_same}
 use Rattle.g5_run.proofs.top.g5_top.Goals as goal
 
 pub returns-clause-untouched : goal.returns-clause-untouched
@@ -9,7 +10,8 @@ returns-clause-untouched g c = λ early.
     ends_untouched (asked (map string_bytes c.args.words.now)) (g.F.Shelf.seen c.args.shelf.now)
     (g.F.Shelf.seen c.obey.new.shelf) (g.O.Sink.seen c.args.out.now)
     (g.O.Sink.seen c.obey.new.out) (g.E.Sink.seen c.args.err.now)
-    (g.E.Sink.seen c.obey.new.err) (g.Z.Silicon.seen c.obey.new.silicon) c.obey.result
+    (g.E.Sink.seen c.obey.new.err) (silicon_after (g.Z.Silicon.seen c.obey.new.silicon) (g.Z.Silicon.tape c.args.silicon.now)
+    (g.Z.Silicon.tape c.obey.new.silicon)) c.obey.result
     c.obey.ensures early
 
 pub returns-clause-complete : goal.returns-clause-complete
@@ -18,7 +20,8 @@ returns-clause-complete g c = λ names config j is ok nf.
     (g.F.Shelf.seen c.args.shelf.now) (g.F.Shelf.seen c.obey.new.shelf)
     (g.O.Sink.seen c.args.out.now) (g.O.Sink.seen c.obey.new.out)
     (g.E.Sink.seen c.args.err.now) (g.E.Sink.seen c.obey.new.err)
-    (g.Z.Silicon.seen c.obey.new.silicon) c.obey.result c.obey.ensures is ok nf
+    (silicon_after (g.Z.Silicon.seen c.obey.new.silicon) (g.Z.Silicon.tape c.args.silicon.now)
+    (g.Z.Silicon.tape c.obey.new.silicon)) c.obey.result c.obey.ensures is ok nf
 
 pub returns-clause-headline : goal.returns-clause-headline
 returns-clause-headline g c = λ names config j is ok premise made.
@@ -26,7 +29,8 @@ returns-clause-headline g c = λ names config j is ok premise made.
     (g.F.Shelf.seen c.args.shelf.now) (g.F.Shelf.seen c.obey.new.shelf)
     (g.O.Sink.seen c.args.out.now) (g.O.Sink.seen c.obey.new.out)
     (g.E.Sink.seen c.args.err.now) (g.E.Sink.seen c.obey.new.err)
-    (g.Z.Silicon.seen c.obey.new.silicon) c.obey.result c.obey.ensures is ok premise made
+    (silicon_after (g.Z.Silicon.seen c.obey.new.silicon) (g.Z.Silicon.tape c.args.silicon.now)
+    (g.Z.Silicon.tape c.obey.new.silicon)) c.obey.result c.obey.ensures is ok premise made
 
 pub returns-clause-same : goal.returns-clause-same
 returns-clause-same g c = λ names config j is ok premise done.
@@ -34,4 +38,14 @@ returns-clause-same g c = λ names config j is ok premise done.
     (g.F.Shelf.seen c.args.shelf.now) (g.F.Shelf.seen c.obey.new.shelf)
     (g.O.Sink.seen c.args.out.now) (g.O.Sink.seen c.obey.new.out)
     (g.E.Sink.seen c.args.err.now) (g.E.Sink.seen c.obey.new.err)
-    (g.Z.Silicon.seen c.obey.new.silicon) c.obey.result c.obey.ensures is ok premise done
+    (silicon_after (g.Z.Silicon.seen c.obey.new.silicon) (g.Z.Silicon.tape c.args.silicon.now)
+    (g.Z.Silicon.tape c.obey.new.silicon)) c.obey.result c.obey.ensures is ok premise done
+
+pub returns-clause-lawful : goal.returns-clause-lawful
+returns-clause-lawful g c = λ names config is made.
+    ends_lawful (asked (map string_bytes c.args.words.now)) names config
+    (g.F.Shelf.seen c.args.shelf.now) (g.F.Shelf.seen c.obey.new.shelf)
+    (g.O.Sink.seen c.args.out.now) (g.O.Sink.seen c.obey.new.out)
+    (g.E.Sink.seen c.args.err.now) (g.E.Sink.seen c.obey.new.err)
+    (silicon_after (g.Z.Silicon.seen c.obey.new.silicon) (g.Z.Silicon.tape c.args.silicon.now)
+    (g.Z.Silicon.tape c.obey.new.silicon)) c.obey.result c.obey.ensures is made

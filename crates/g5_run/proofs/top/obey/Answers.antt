@@ -1,9 +1,12 @@
-use Rattle.std.proofs.Common.{◌≡◌, ◌∙◌, refl}
+use Rattle.g5_run.specs.Leaving.{silicon_after}
+use Rattle.std.proofs.Common.{◌≡◌, ◌∙◌, Some, ap, refl, subst}
 use Rattle.std.specs.Prelude.{map, string_bytes}
 use Rattle.g5_words.specs.Asked.{asked_by, job_names}
 use Rattle.g5_words.specs.declared.refusal.WordsRefused.TheVariants as refused
 use Rattle.g5_run.specs.Asked.{asked}
-use Rattle.g5_run.proofs.Telling.{asked_is, asked_none, run_ends}
+use Rattle.g5_run.specs.Built.{IsSoundly, built_as}
+use Rattle.g5_run.specs.declared.top.Built.TheVariants as variant
+use Rattle.g5_run.proofs.Telling.{asked_is, asked_none, audit_ends, gen_ends, migrate_ends, run_ends}
 use Rattle.g5_run.proofs.top.obey.Goals as goal
 
 pub returns-in-Err-Usage : goal.returns-in-Err-Usage
@@ -14,17 +17,67 @@ returns-in-Err-Usage g c =
       record { untouched = record { numbers = refl; out = refl }; said = c.say.ensures },
     )
 
-pub returns-in-Some : goal.returns-in-Some
-returns-in-Some g c =
+pub returns-in-Some-Run : goal.returns-in-Some-Run
+returns-in-Some-Run g c =
     let words = map string_bytes c.args.words.now in
-    let ask = c.in-Some.asked in
-    run_ends (asked words) (job_names ask.names) ask.config (g.F.Shelf.seen c.args.shelf.now)
-    (g.F.Shelf.seen c.run_command.new.shelf) (g.O.Sink.seen c.args.out.now)
-    (g.O.Sink.seen c.run_command.new.out) (g.E.Sink.seen c.args.err.now)
-    (g.E.Sink.seen c.run_command.new.err) (g.Z.Silicon.seen c.run_command.new.silicon)
+    let built : c.in-Some-Run.field-0 ≡ variant.Run c.in-Some-Run.names c.in-Some-Run.config =
+    cc c.in-Some-Run.field-0-is in
+    run_ends (asked words) (job_names c.in-Some-Run.names) c.in-Some-Run.config
+    (g.F.Shelf.seen c.args.shelf.now) (g.F.Shelf.seen c.run_command.new.shelf)
+    (g.O.Sink.seen c.args.out.now) (g.O.Sink.seen c.run_command.new.out)
+    (g.E.Sink.seen c.args.err.now) (g.E.Sink.seen c.run_command.new.err)
+    (silicon_after (g.Z.Silicon.seen c.run_command.new.silicon)
+    (g.Z.Silicon.tape c.args.silicon.now) (g.Z.Silicon.tape c.run_command.new.silicon))
     c.run_command.result
-    (asked_is words (asked_by c.in-Ok.command) c.in-Ok.ensures.ok ∙ c.in-Some.ensures.asked)
-    (c.in-Some.ensures.sound c.in-Ok.ensures.sound).1 c.run_command.ensures
+    (asked_is words (asked_by c.in-Ok.command) c.in-Ok.ensures.ok
+    ∙ c.in-Some-Run.ensures.asked ∙ ap (λ b. Some (built_as b)) built)
+    (subst IsSoundly built (c.in-Some-Run.ensures.sound c.in-Ok.ensures.sound)).1 c.run_command.ensures
+
+pub returns-in-Some-Gen : goal.returns-in-Some-Gen
+returns-in-Some-Gen g c =
+    let words = map string_bytes c.args.words.now in
+    let built : c.in-Some-Gen.field-0 ≡ variant.Gen c.in-Some-Gen.number c.in-Some-Gen.turns =
+    cc c.in-Some-Gen.field-0-is in
+    let sound = subst IsSoundly built (c.in-Some-Gen.ensures.sound c.in-Ok.ensures.sound) in
+    gen_ends (asked words) c.in-Some-Gen.number c.in-Some-Gen.turns (g.F.Shelf.seen c.args.shelf.now)
+    (g.O.Sink.seen c.args.out.now) (g.O.Sink.seen c.generate_and_run.new.out)
+    (g.E.Sink.seen c.args.err.now) (g.E.Sink.seen c.generate_and_run.new.err)
+    (silicon_after (g.Z.Silicon.seen c.generate_and_run.new.silicon)
+    (g.Z.Silicon.tape c.args.silicon.now) (g.Z.Silicon.tape c.generate_and_run.new.silicon))
+    c.generate_and_run.result
+    (asked_is words (asked_by c.in-Ok.command) c.in-Ok.ensures.ok
+    ∙ c.in-Some-Gen.ensures.asked ∙ ap (λ b. Some (built_as b)) built)
+    sound.0 sound.1 c.generate_and_run.ensures
+
+pub returns-in-Some-Migrate : goal.returns-in-Some-Migrate
+returns-in-Some-Migrate g c =
+    let words = map string_bytes c.args.words.now in
+    let built : c.in-Some-Migrate.field-0 ≡ variant.Migrate c.in-Some-Migrate.old c.in-Some-Migrate.new =
+    cc c.in-Some-Migrate.field-0-is in
+    migrate_ends (asked words) c.in-Some-Migrate.old.now c.in-Some-Migrate.new.now
+    (g.F.Shelf.seen c.args.shelf.now) (g.F.Shelf.seen c.migrate_and_say.new.shelf)
+    (g.O.Sink.seen c.args.out.now) (g.E.Sink.seen c.args.err.now)
+    (g.E.Sink.seen c.migrate_and_say.new.err)
+    (silicon_after (g.Z.Silicon.seen c.args.silicon.now) (g.Z.Silicon.tape c.args.silicon.now)
+    (g.Z.Silicon.tape c.args.silicon.now)) c.migrate_and_say.result
+    (asked_is words (asked_by c.in-Ok.command) c.in-Ok.ensures.ok
+    ∙ c.in-Some-Migrate.ensures.asked ∙ ap (λ b. Some (built_as b)) built)
+    c.migrate_and_say.ensures
+
+pub returns-in-Some-Audit : goal.returns-in-Some-Audit
+returns-in-Some-Audit g c =
+    let words = map string_bytes c.args.words.now in
+    let built : c.in-Some-Audit.field-0 ≡ variant.Audit c.in-Some-Audit.log =
+    cc c.in-Some-Audit.field-0-is in
+    audit_ends (asked words) c.in-Some-Audit.log.now (g.F.Shelf.seen c.args.shelf.now)
+    (g.F.Shelf.seen c.audit_and_say.new.shelf) (g.O.Sink.seen c.args.out.now)
+    (g.O.Sink.seen c.audit_and_say.new.out) (g.E.Sink.seen c.args.err.now)
+    (g.E.Sink.seen c.audit_and_say.new.err)
+    (silicon_after (g.Z.Silicon.seen c.args.silicon.now) (g.Z.Silicon.tape c.args.silicon.now)
+    (g.Z.Silicon.tape c.args.silicon.now)) c.audit_and_say.result
+    (asked_is words (asked_by c.in-Ok.command) c.in-Ok.ensures.ok
+    ∙ c.in-Some-Audit.ensures.asked ∙ ap (λ b. Some (built_as b)) built)
+    c.audit_and_say.ensures
 
 pub returns-in-None : goal.returns-in-None
 returns-in-None g c =

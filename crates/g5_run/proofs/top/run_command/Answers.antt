@@ -1,3 +1,4 @@
+use Rattle.g5_run.specs.Leaving.{silicon_after}
 use Rattle.std.proofs.Common.{◌≡◌, subst}
 use Rattle.g5_words.specs.Asked.{job_names}
 use Rattle.run_model.specs.Texts.{report}
@@ -13,5 +14,6 @@ returns-in-Whole g c =
     whole_ends (job_names c.args.names.now) c.args.config c.in-Whole.counts c.in-Whole.within
     (g.F.Shelf.seen c.args.shelf.now) (g.F.Shelf.seen c.run_job.new.shelf)
     (g.O.Sink.seen c.args.out.now) (g.O.Sink.seen c.run_job.new.out) e f
-    (g.Z.Silicon.seen c.run_job.new.silicon) c.status_of.result c.in-Whole.ensures
+    (silicon_after (g.Z.Silicon.seen c.run_job.new.silicon) (g.Z.Silicon.tape c.args.silicon.now)
+    (g.Z.Silicon.tape c.run_job.new.silicon)) c.status_of.result c.in-Whole.ensures
     (subst (λ t. Says t e f) text c.say.ensures) c.status_of.ensures

@@ -2,7 +2,8 @@ use Rattle.std.proofs.Common.{refl}
 use Rattle.std.proofs.lemmas.Result.{err_from_is_err_and}
 use Rattle.g5_reading.proofs.ReadLoop.{only_same, only_more}
 use Rattle.g5_words.specs.Asked.{session_names}
-use Rattle.job_inputs.proofs.InputReads.{in_before}
+use Rattle.program_model.specs.declared.inputs.Input.TheVariants.{Deck, Console, Schedule, Script}
+use Rattle.job_inputs.proofs.InputReads.{in_before, unread}
 use Rattle.job_inputs.proofs.reading.read_inputs.Goals as goal
 
 pub returns-in_err-deck-clause-refusal : goal.returns-in_err-deck-clause-refusal
@@ -10,7 +11,7 @@ returns-in_err-deck-clause-refusal g c =
     let p = err_from_is_err_and c.from_residual.result c.from_residual.ensures.1 in
     let names = session_names c.args.names.now in
     let a = g.F.Shelf.seen c.args.shelf.now in
-    rw (p.1, p.2) (c.in_err-deck.ensures.refusal names a refl (only_same a) tt)
+    rw (p.1, p.2) (unread Deck names a a _ _ (only_same a) tt c.in_err-deck.ensures.refusal)
 
 pub returns-in_err-console-clause-refusal : goal.returns-in_err-console-clause-refusal
 returns-in_err-console-clause-refusal g c =
@@ -19,8 +20,8 @@ returns-in_err-console-clause-refusal g c =
     let names = session_names c.args.names.now in
     let a = g.F.Shelf.seen c.args.shelf.now in
     let deck = c.in_ok-deck in
-    rw (p.1, p.2) (c.in_err-console.ensures.refusal names a refl deck.ensures.only
-    (deck.deck.items, deck.ensures.bytes))
+    rw (p.1, p.2) (unread Console names a _ _ _ deck.ensures.only
+    (deck.deck.items, deck.ensures.bytes) c.in_err-console.ensures.refusal)
 
 pub returns-in_err-schedule-clause-refusal : goal.returns-in_err-schedule-clause-refusal
 returns-in_err-schedule-clause-refusal g c =
@@ -34,10 +35,10 @@ returns-in_err-schedule-clause-refusal g c =
     let console = c.in_ok-console in
     let o1 = deck.ensures.only in
     let o2 = only_more a b d o1 console.ensures.only in
-    rw (p.1, p.2) (c.in_err-schedule.ensures.refusal names a refl o2 (
+    rw (p.1, p.2) (unread Schedule names a d _ _ o2 (
       (deck.deck.items, deck.ensures.bytes),
       (console.console.items, in_before _ _ a b _ o1 console.ensures.bytes),
-    ))
+    ) c.in_err-schedule.ensures.refusal)
 
 pub returns-in_err-script-clause-refusal : goal.returns-in_err-script-clause-refusal
 returns-in_err-script-clause-refusal g c =
@@ -54,11 +55,11 @@ returns-in_err-script-clause-refusal g c =
     let o1 = deck.ensures.only in
     let o2 = only_more a b d o1 console.ensures.only in
     let o3 = only_more a d e o2 schedule.ensures.only in
-    rw (p.1, p.2) (c.in_err-script.ensures.refusal names a refl o3 (
+    rw (p.1, p.2) (unread Script names a e _ _ o3 (
       (deck.deck.items, deck.ensures.bytes),
       (console.console.items, in_before _ _ a b _ o1 console.ensures.bytes),
       (schedule.schedule.items, in_before _ _ a d _ o2 schedule.ensures.bytes),
-    ))
+    ) c.in_err-script.ensures.refusal)
 
 pub returns-clause-read : goal.returns-clause-read
 returns-clause-read g c =

@@ -40,7 +40,8 @@ write_tail-requires g c =
 pub returns-in-Err : goal.returns-in-Err
 returns-in-Err g c =
     let e = c.args.machine.now in
-    let old = view_of e (g.Z.Silicon.seen c.args.silicon.now) in
+    let old = view_of e (g.Z.Silicon.seen c.args.silicon.now)
+    (g.Z.Silicon.tape c.args.silicon.now) in
     let sa = g.F.Shelf.seen c.args.shelf.now in
     let sb = g.F.Shelf.seen c.write_head.new.shelf in
     let oa = g.O.Sink.seen c.args.out.now in
@@ -52,8 +53,10 @@ returns-in-Err g c =
 pub returns-in-Err-make_runs : goal.returns-in-Err-make_runs
 returns-in-Err-make_runs g c =
     let e = c.args.machine.now in
-    let old = view_of e (g.Z.Silicon.seen c.args.silicon.now) in
-    let new = view_of c.make_runs.new.engine (g.Z.Silicon.seen c.make_runs.new.silicon) in
+    let old = view_of e (g.Z.Silicon.seen c.args.silicon.now)
+    (g.Z.Silicon.tape c.args.silicon.now) in
+    let new = view_of c.make_runs.new.engine (g.Z.Silicon.seen c.make_runs.new.silicon)
+    (g.Z.Silicon.tape c.make_runs.new.silicon) in
     let sa = g.F.Shelf.seen c.args.shelf.now in
     let sb = g.F.Shelf.seen c.write_head.new.shelf in
     let sc = g.F.Shelf.seen c.make_runs.new.shelf in
@@ -70,8 +73,10 @@ returns-in-Err-make_runs g c =
 pub returns-in-Err-write_tail : goal.returns-in-Err-write_tail
 returns-in-Err-write_tail g c =
     let e = c.args.machine.now in
-    let old = view_of e (g.Z.Silicon.seen c.args.silicon.now) in
-    let new = view_of c.make_runs.new.engine (g.Z.Silicon.seen c.make_runs.new.silicon) in
+    let old = view_of e (g.Z.Silicon.seen c.args.silicon.now)
+    (g.Z.Silicon.tape c.args.silicon.now) in
+    let new = view_of c.make_runs.new.engine (g.Z.Silicon.seen c.make_runs.new.silicon)
+    (g.Z.Silicon.tape c.make_runs.new.silicon) in
     let sa = g.F.Shelf.seen c.args.shelf.now in
     let sb = g.F.Shelf.seen c.write_head.new.shelf in
     let sc = g.F.Shelf.seen c.make_runs.new.shelf in
@@ -92,8 +97,10 @@ returns-in-Err-write_tail g c =
 pub returns-in-Ok-write_tail : goal.returns-in-Ok-write_tail
 returns-in-Ok-write_tail g c =
     let e = c.args.machine.now in
-    let old = view_of e (g.Z.Silicon.seen c.args.silicon.now) in
-    let new = view_of c.make_runs.new.engine (g.Z.Silicon.seen c.make_runs.new.silicon) in
+    let old = view_of e (g.Z.Silicon.seen c.args.silicon.now)
+    (g.Z.Silicon.tape c.args.silicon.now) in
+    let new = view_of c.make_runs.new.engine (g.Z.Silicon.seen c.make_runs.new.silicon)
+    (g.Z.Silicon.tape c.make_runs.new.silicon) in
     let sa = g.F.Shelf.seen c.args.shelf.now in
     let sb = g.F.Shelf.seen c.write_head.new.shelf in
     let sc = g.F.Shelf.seen c.make_runs.new.shelf in

@@ -87,6 +87,23 @@ returns-clause-follows g c = λ ea eb x st bounded sound.
     (set_twice cpus i c.replace-held.new.dest t.held)
     (c.count.ensures.counts ∙ rw (read, c.len.ensures.value) refl) refl f
 
+pub returns-clause-hands : goal.returns-clause-hands
+returns-clause-hands g c = λ ea eb x st bounded sound.
+    let m = c.args.self.now in
+    let cpus = m.cpus.items in
+    let i = c.args.cpu.0 in
+    let h = c.replace-held.result in
+    let inside : i < length cpus = subst (λ (n : ℕ). i < n) m.fits.cpus c.requires.known in
+    let got : slice_get cpus i ≡ Some h =
+    slice_get_read cpus _ i c.index_mut.result.now refl inside c.index_mut.ensures.value
+    ∙ ap (λ (q : Held). Some q) (sym c.replace-held.ensures.value) in
+    let number : c.new-journal.result.turn ≡ m.counts.turns + 1 =
+    c.new-journal.ensures.turn ∙ ap (λ n. n + 1) c.turns.ensures.turns in
+    c.turn_held-turned.ensures.hands ea eb m.config x refl
+    (before_turn m c.args.cpu (g.Z.Silicon.seen c.args.z.now) x h c.new-journal.result.turn st
+    bounded (g.met.Z.Silicon.formed c.args.z.now) c.requires.known m.fits.cpus got m.there number
+    sound)
+
 pub returns-clause-obeys : goal.returns-clause-obeys
 returns-clause-obeys g c = λ s st.
     let m = c.args.self.now in

@@ -21,11 +21,13 @@ returns-clause-gives g c =
     } in
     let y = g.Z.Silicon.seen c.args.silicon.now in
     let z = g.Z.Silicon.seen c.turn-turn.new.z in
+    let v = g.Z.Silicon.tape c.args.silicon.now in
+    let w = g.Z.Silicon.tape c.turn-turn.new.z in
     let t = c.turn-turn.result in
     let f = c.turn-turn.ensures in
     rw c.event_of.ensures
-    (gives_by (Turns c.args.cpu) e e2 y z (told_by c.args.cpu.0 t) c.requires.ready
-    (cpu_says e e2 y z c.args.cpu t f.rises f.calls_a f.calls_b f.turns f.config f.obeys
-    (f.follows refl refl))
+    (gives_by (Turns c.args.cpu) e e2 y z v w (told_by c.args.cpu.0 t) c.requires.ready
+    (cpu_says e e2 y z v w c.args.cpu t f.rises f.calls_a f.calls_b f.turns f.config f.obeys
+    (f.follows refl refl) (f.hands refl refl))
     (cpu_struck e e2 y c.args.cpu t c.requires.ready c.requires.known f.config f.goes
     (f.causes refl refl)))

@@ -7,7 +7,7 @@ pub returns : goal.returns
 returns c =
     let e = c.blank.ensures in
     record {
-      lines = ap lines_of e.script;
+      lines = ap lines_of e.walk;
       begun = λ k h. ap (λ (xs : List ℕ). get_or xs k 0) e.begun ∙ zero_in 16 k;
       word = λ k w h l. ap (λ (xs : List ℕ). get_or xs (k * 40 + w) 0) e.words ∙ zero_in 640 (k * 40 + w);
     }

@@ -1,0 +1,4 @@
+pub mod Operands
+pub mod Text
+pub mod Lines
+pub mod Worked

@@ -1,0 +1,5 @@
+pub mod Lengths
+pub mod Reading
+pub mod RelocationSteps
+pub mod RunBytes
+pub mod TextSteps

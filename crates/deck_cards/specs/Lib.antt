@@ -1,0 +1,5 @@
+pub mod NumberedCards
+pub mod RelocationCards
+pub mod TextCards
+pub mod Worked
+pub mod Writable

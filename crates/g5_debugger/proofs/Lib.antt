@@ -1,0 +1,12 @@
+mod AddressTexts
+mod Commanded
+mod FittingRuns
+mod HeldWords
+mod Keeping
+mod LineFields
+mod NextTurns
+mod RunsLeft
+mod Saying
+mod StandingCores
+mod StorageTexts
+mod Words

@@ -1,0 +1,9 @@
+pub mod Answering
+pub mod CoresOf
+pub mod Fitting
+pub mod Left
+pub mod Making
+pub mod Order
+pub mod Parts
+pub mod Sessions
+pub mod Words

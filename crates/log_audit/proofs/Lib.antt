@@ -1,0 +1,12 @@
+pub mod Agreeing
+pub mod Chains
+pub mod Cutting
+pub mod Heads
+pub mod Keeping
+pub mod Knowing
+pub mod Ran
+pub mod Truths
+pub mod Turned
+pub mod Verdicts
+pub mod Walking
+pub mod Writings

@@ -1,0 +1,9 @@
+pub mod Form
+pub mod Next
+pub mod Points
+pub mod Remembered
+pub mod Remembers
+pub mod Tallies
+pub mod Verdict
+pub mod Written
+pub mod Worked

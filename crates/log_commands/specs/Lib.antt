@@ -1,0 +1,2 @@
+pub mod Migrates
+pub mod Audits
