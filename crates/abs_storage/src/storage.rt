@@ -42,6 +42,13 @@ impl AbsStorage {
         self.bytes.len() as u32
     }
 
+    /// All bytes, from absolute address 0 on.
+    pub fn bytes(&self) -> &[u8]
+        ensures { result.now ≡ self.now }
+    {
+        &self.bytes
+    }
+
     /// The byte at an absolute address, `None` exactly outside.
     pub fn fetch(&self, at: u32) -> Option<u8>
         ensures { result ≡ slice_get self.now at }

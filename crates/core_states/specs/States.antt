@@ -1,6 +1,9 @@
 -- What the calls of a core's states give. Source: choice of this project.
 use Rattle.std.specs.Prelude.{⊤, ◌≡◌, ℕ, ◌+◌, ◌<◌, List, [], Option, Some, None}
 use Rattle.esa_model.specs.declared.machine.Registers.{Registers}
+use Rattle.esa_model.specs.Apply.{Piece}
+use Rattle.esa_model.specs.Packet.{read}
+use Rattle.result_packet.specs.Pieces.{stores_of}
 use Rattle.run_model.specs.declared.faults.CoreNo.{CoreNo}
 use Rattle.run_model.specs.declared.faults.Strike.{Strike}
 use Rattle.run_model.specs.declared.faults.Unit.TheVariants.{A}
@@ -70,6 +73,12 @@ abbrev pub calls_in : Attempt → ℕ
 calls_in (Committed k p) = calls_by None
 calls_in (Failed k why n) = calls_by (Some why)
 calls_in (Lost k w) = 0
+
+-- the pieces that are held after it, of a CPU with this prefix and a storage of so many bytes
+abbrev pub AttemptHolds : ℕ → ℕ → Attempt → List Piece → Type 0
+AttemptHolds prefix size (Committed k p) held = held ≡ stores_of prefix size (read p)
+AttemptHolds prefix size (Failed k why n) held = held ≡ []
+AttemptHolds prefix size (Lost k w) held = held ≡ []
 
 -- ---- a retry
 

@@ -2,6 +2,7 @@
 #![tactic(auto)]
 
 mod cores;
+mod holding;
 mod latches;
 mod laws;
 mod states;

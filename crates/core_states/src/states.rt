@@ -1,17 +1,19 @@
 // A core is spare, running, recovering or fenced. Each call takes the state before it.
-ghost use Rattle.std.specs.Prelude.{◌≡◌, ℕ, ◌+◌, ◌-◌, ◌^◌, ◌<◌, [], IsTrue, IsSome, true, false};
+ghost use Rattle.std.specs.Prelude.{◌≡◌, ℕ, ◌+◌, ◌-◌, ◌^◌, ◌<◌, [], length, IsTrue, IsSome, true, false};
 ghost use Rattle.silicon.specs.Tape.{tells};
 ghost use Rattle.core_states.specs.Words.{Rewrites, Fills, Changes};
 ghost use Rattle.core_states.specs.Words.{read_core as reading_of, scrub_reading};
 ghost use Rattle.core_states.specs.Trial.{setting, waits, packet_due, IsDue, IsStepAt};
 ghost use Rattle.core_states.specs.Trial.{next_trial, bytes_in};
 ghost use Rattle.core_states.specs.States.{AttemptKeeps, AttemptDoes, AttemptGives, AttemptSteps};
-ghost use Rattle.core_states.specs.States.{AttemptFails, attempt_hands, calls_in, lost_in};
+ghost use Rattle.core_states.specs.States.{AttemptFails, AttemptHolds, attempt_hands, calls_in};
+ghost use Rattle.core_states.specs.States.{lost_in};
 ghost use Rattle.core_states.specs.States.{RecoversAs, lost_word, HandsOver, lost_by};
 
 use crate::cores::{
     Attempt, FencedCore, HandedOver, Recovered, RecoveringCore, RunningCore, SpareCore,
 };
+use crate::holding::hold_stores;
 use crate::tried::{Tried, finish};
 use crate::words::{Notes, fill, read_core, scrub, write_changed};
 use abs_storage::View;
@@ -20,6 +22,7 @@ use result_packet::Side;
 use run_model::faults::{CoreNo, Numbered};
 use runit_ecc::registers_of;
 use silicon::Silicon;
+use store_buffer::Holder;
 use twin_units::ResultUnit;
 
 impl SpareCore {
@@ -89,8 +92,9 @@ impl RunningCore {
     /// all words of the core are read; it is not begun where one is lost. An attempt makes the
     /// sealed fetch latch of the event, one packet in each of the two units, and the sealed store
     /// latch of unit A's packet, and each of them passes the silicon. It fails where a latch comes
-    /// back with even parity, or the two packets differ; else unit A's packet is to be carried out.
-    pub fn attempt<V: View, Z: Silicon, P: ResultUnit, Q: ResultUnit>(
+    /// back with even parity, or the two packets differ; else unit A's packet is to be carried out,
+    /// and its stores are held. Where it is not, nothing is held.
+    pub fn attempt<V: Holder, Z: Silicon, P: ResultUnit, Q: ResultUnit>(
         self,
         cpu: CpuNo,
         view: &mut V,
@@ -139,22 +143,31 @@ impl RunningCore {
             → IsStepAt (setting self.registers cpu.0 (V.bytes view.old) side.now)
             (bytes_in (P.seen a.new).last) }
         ensures view { V.bytes view.new ≡ V.bytes view.old }
+        ensures held { AttemptHolds self.registers.prefix (length (V.bytes view.old)) result
+            (V.held view.new) }
     {
         let n = z.begun(self.core);
         if let Some(word) = scrub(self.core, z, notes) {
+            view.drop_held();
             return Attempt::Lost(FencedCore { core: self.core }, word);
         }
         z.begin(self.core);
         match finish(self.core, &self.registers, cpu, view, side, z, a, b) {
-            Tried::Done(packet) => Attempt::Committed(self, packet),
-            Tried::Failed(cause) => Attempt::Failed(
-                RecoveringCore {
-                    core: self.core,
-                    retries: self.retries,
-                },
-                cause,
-                n,
-            ),
+            Tried::Done(packet) => {
+                hold_stores(view, self.registers.prefix, &packet);
+                Attempt::Committed(self, packet)
+            }
+            Tried::Failed(cause) => {
+                view.drop_held();
+                Attempt::Failed(
+                    RecoveringCore {
+                        core: self.core,
+                        retries: self.retries,
+                    },
+                    cause,
+                    n,
+                )
+            }
         }
     }
 

@@ -1,6 +1,7 @@
 // Attempts, retries and transfers at the unit `LA 1,2048`, by the strikes of short scripts.
 ghost use Rattle.std.specs.Prelude.{◌≡◌, ◌<◌, ◌^◌, [], length};
 
+mod held;
 mod stored;
 
 use crate::{
@@ -9,6 +10,7 @@ use crate::{
 use abs_storage::AbsStorage;
 use esa_model::machine::{CpuNo, Psw, Registers};
 use fault_script::parse;
+use held::Holding;
 use result_packet::{Console, Packet, Side};
 use run_model::faults::{Cause, CoreNo, Unit};
 use sigp_bus::Bus;
@@ -22,7 +24,7 @@ use twin_units::{FixedUnit, PlainUnit, ResultUnit};
 #[derive(Drop)]
 struct Scene {
     registers: Registers,
-    storage: AbsStorage,
+    storage: Holding,
     side: Side,
 }
 
@@ -49,7 +51,7 @@ fn new_scene(alloc: Global) -> Result<Scene, Fail> {
             prefix: 0x4000,
             clocks: [0x2000, 1 << 63, 0, 0],
         },
-        storage,
+        storage: Holding::new(storage),
         side: Side {
             keys,
             bus,

@@ -1,4 +1,3 @@
-pub mod Shown
 pub mod Journals
 pub mod Held
 pub mod Places

@@ -15,17 +15,18 @@ use crate::ends::{end_idle, end_stopped, end_without_commit};
 use crate::held::{Held, SparePool, Turned};
 use crate::idling::is_waiting;
 use crate::journal::Journal;
-use crate::memory::Memory;
 use crate::outcomes::Outcome;
 use crate::registers::are_registers;
 use core_states::{Attempt, Notes, RunningCore};
 use esa_model::machine::CpuNo;
 use result_packet::Side;
+use seen_memory::Memory;
 use silicon::Silicon;
 use twin_units::ResultUnit;
 
 /// The turn is idle, or makes an attempt: the event that is due is carried out, or the core is to be
-/// recovered, or a word is lost and the CPU stops.
+/// recovered, or a word is lost and the CPU stops. A core that did not commit is left with an empty
+/// cache; until it is woken again nothing is fetched by it.
 pub fn turn_running<Z: Silicon, P: ResultUnit, Q: ResultUnit>(
     k: RunningCore,
     cpu: CpuNo,
@@ -37,6 +38,7 @@ pub fn turn_running<Z: Silicon, P: ResultUnit, Q: ResultUnit>(
     b: &mut Q,
     journal: &mut Journal,
 ) -> Turned
+    requires known { cpu.0 < 8 }
     requires blank { IsBlank journal.old cpu.0 k.core.0 }
     requires begun { (Z.seen z.old).begun k.core.0 < 2 ^ 64 - 1 }
     requires calls_a { (P.seen a.old).calls < 2 ^ 64 - 1 }
@@ -80,6 +82,7 @@ pub fn turn_running<Z: Silicon, P: ResultUnit, Q: ResultUnit>(
     }
     let retries = k.retries();
     let mut notes = Notes::new();
+    memory.lend_to(cpu, k.core());
     match k.attempt(cpu, memory, side, z, a, b, &mut notes) {
         Attempt::Committed(k, packet) => {
             journal.log_notes(notes.as_slice());
@@ -96,10 +99,12 @@ pub fn turn_running<Z: Silicon, P: ResultUnit, Q: ResultUnit>(
         }
         Attempt::Failed(k, why, attempt) => {
             journal.log_failed(notes.as_slice(), why, attempt);
+            memory.empty_cache();
             end_without_commit(Held::Recovering(k), Outcome::Failed(why))
         }
         Attempt::Lost(f, word) => {
             journal.log_lost(notes.as_slice(), word);
+            memory.empty_cache();
             end_stopped(f, retries, cpu, side, pool)
         }
     }

@@ -4,7 +4,7 @@ ghost use Rattle.std.specs.Prelude.{◌≡◌, ℕ, ◌+◌, ◌≤◌, ◌<◌,
 ghost use Rattle.core_turns.specs.Held.{core_of};
 ghost use Rattle.core_turns.specs.Places.{on, with_cpu, in_pool};
 
-use crate::{Held, Journal, Memory, Outcome, SparePool, turn_held};
+use crate::{Held, Journal, Outcome, SparePool, turn_held};
 use abs_storage::AbsStorage;
 use core_states::SpareCore;
 use esa_model::machine::{CpuNo, Psw, Registers, Request};
@@ -12,6 +12,7 @@ use fault_script::parse;
 use result_packet::{Console, Side};
 use run_model::faults::{Cause, CoreNo, Mode};
 use run_model::logs::{Entry, What};
+use seen_memory::Memory;
 use sigp_bus::Bus;
 use silicon::{ScriptSilicon, Silicon};
 use sparing::Pool;
@@ -71,7 +72,7 @@ fn new_parts(alloc: Global, script: &[u8], spares: bool) -> Result<Parts, Fail>
     let mut z = ScriptSilicon::new();
     z.arm(script);
     Ok(Parts {
-        memory: Memory::new(new_storage(alloc)?),
+        memory: Memory::new(alloc, new_storage(alloc)?)?,
         side: new_side(alloc)?,
         pool: new_pool(alloc, spares)?,
         z,

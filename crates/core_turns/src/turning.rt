@@ -18,11 +18,11 @@ ghost use Rattle.core_turns.specs.Recovered.{Recovers};
 use crate::ends::end_idle;
 use crate::held::{Held, SparePool, Turned};
 use crate::journal::Journal;
-use crate::memory::Memory;
 use crate::recovering::turn_recovering;
 use crate::running::turn_running;
 use esa_model::machine::CpuNo;
 use result_packet::Side;
+use seen_memory::Memory;
 use silicon::Silicon;
 use twin_units::ResultUnit;
 
@@ -39,6 +39,7 @@ fn turn_in_mode<Z: Silicon, P: ResultUnit, Q: ResultUnit>(
     b: &mut Q,
     journal: &mut Journal,
 ) -> Turned
+    requires known { cpu.0 < 8 }
     requires blank { IsBlank journal.old cpu.0 (core_of held) }
     requires small { threshold ≤ 15 }
     requires begun { (Z.seen z.old).begun (core_of held) < 2 ^ 64 - 1 }
@@ -99,6 +100,7 @@ pub fn turn_held<Z: Silicon, P: ResultUnit, Q: ResultUnit>(
     b: &mut Q,
     journal: &mut Journal,
 ) -> Turned
+    requires known { cpu.0 < 8 }
     requires blank { IsBlank journal.old cpu.0 (core_of held) }
     requires small { threshold ≤ 15 }
     requires begun { (Z.seen z.old).begun (core_of held) < 2 ^ 64 - 1 }

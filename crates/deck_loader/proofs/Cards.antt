@@ -129,7 +129,7 @@ used_texts items (c ∷ cs) h =
     let later = none_after (is_unknown items) (uses_of c.number c.owner c.card) (listing_of cs).uses h in
     used_step items c.number c.owner c.card (listing_of cs).uses (listing_of cs).texts h (used_texts items cs later)
 
-by_end : (b : Bool) (cs : List Numbered) (l : Listing) → cond b (Ok (listing_of cs)) (Err NoEnd) ≡ Ok l → listing_of cs ≡ l
+pub by_end : (b : Bool) (cs : List Numbered) (l : Listing) → cond b (Ok (listing_of cs)) (Err NoEnd) ≡ Ok l → listing_of cs ≡ l
 by_end true cs l h = grind (arith, nat_tests)
 by_end false cs l h = absurd (grind (arith, nat_tests))
 

@@ -26,11 +26,11 @@ pub record Accepted (n : ℕ) (l : Listing) (ps : List Placed) : Type 0 where
   pub constants : find (is_constant_outside ps) l.relocations ≡ None
   pub room : list_any (has_no_room n) ps ≡ false
 
-refused_none : (r : ℕ → DeckRefusal) (o : Option ℕ) (more : Option DeckRefusal) → refused r o more ≡ None → (o ≡ None) × (more ≡ None)
+pub refused_none : (r : ℕ → DeckRefusal) (o : Option ℕ) (more : Option DeckRefusal) → refused r o more ≡ None → (o ≡ None) × (more ≡ None)
 refused_none r None more h = (refl, h)
 refused_none r (Some n) more h = absurd (grind (arith, nat_tests))
 
-entry_none : (o : Option ℕ) (more : Option DeckRefusal) → entry_refused o more ≡ None → more ≡ None
+pub entry_none : (o : Option ℕ) (more : Option DeckRefusal) → entry_refused o more ≡ None → more ≡ None
 entry_none None more h = absurd (grind (arith, nat_tests))
 entry_none (Some n) more h = h
 
@@ -153,7 +153,7 @@ first_far a b c h = omega (arith, h)
 later_far : (a b c : ℕ) → max a b ≤ c → b ≤ c
 later_far a b c h = omega (arith, h)
 
-inside_texts : (n from : ℕ) (items : List Item) (all ts : List Text) → list_any (has_no_room n) (place from all items) ≡ false → ((s : Item) → farthest s ts ≤ farthest s all) → TextsKnown items ts → find (is_text_outside (place from all items)) ts ≡ None → AreInside (place from all items) n ts
+pub inside_texts : (n from : ℕ) (items : List Item) (all ts : List Text) → list_any (has_no_room n) (place from all items) ≡ false → ((s : Item) → farthest s ts ≤ farthest s all) → TextsKnown items ts → find (is_text_outside (place from all items)) ts ≡ None → AreInside (place from all items) n ts
 unfolding section
 inside_texts n from items all [] room far k h = tt
 inside_texts n from items all (t ∷ ts) room far k h =
@@ -173,7 +173,7 @@ constant_fits n a w (Some p) k room h =
     let end = room p refl in
     omega (arith, low, high, end)
 
-inside_constants : (n : ℕ) (ps : List Placed) (rs : List Relocation) → list_any (has_no_room n) ps ≡ false → WidthsFit rs → find (is_constant_outside ps) rs ≡ None → ConstantsAreInside ps n rs
+pub inside_constants : (n : ℕ) (ps : List Placed) (rs : List Relocation) → list_any (has_no_room n) ps ≡ false → WidthsFit rs → find (is_constant_outside ps) rs ≡ None → ConstantsAreInside ps n rs
 unfolding section
 inside_constants n ps [] room w h = tt
 inside_constants n ps (r ∷ rs) room w h =
@@ -187,12 +187,12 @@ inside_constants n ps (r ∷ rs) room w h =
 
 -- ---- an accepted deck
 
-pub texts_inside : (n : ℕ) (l : Listing) (ps : List Placed) → ps ≡ places 65536 l → TextsAreUsed l → later_violation n l ps ≡ None → AreInside ps n l.texts
+pub texts_inside : (n o : ℕ) (l : Listing) (ps : List Placed) → ps ≡ places o l → TextsAreUsed l → later_violation n l ps ≡ None → AreInside ps n l.texts
 unfolding places
-texts_inside n l ps e used h =
+texts_inside n o l ps e used h =
     let a = accepted_of n l ps h in
     let P : List Placed → Type 0 = λ qs. list_any (has_no_room n) qs ≡ false → find (is_text_outside qs) l.texts ≡ None → AreInside qs n l.texts in
-    subst P (sym e) (λ room texts. inside_texts n 65536 l.items l.texts l.texts room (λ s. omega arith) (used l.items a.known) texts) a.room a.texts
+    subst P (sym e) (λ room texts. inside_texts n o l.items l.texts l.texts room (λ s. omega arith) (used l.items a.known) texts) a.room a.texts
 
 pub constants_inside : (n : ℕ) (l : Listing) (ps : List Placed) → WidthsFit l.relocations → later_violation n l ps ≡ None → ConstantsAreInside ps n l.relocations
 constants_inside n l ps w h = let a = accepted_of n l ps h in inside_constants n ps l.relocations a.room w a.constants
@@ -205,7 +205,7 @@ passes_case true q x p r k e more =
     ap q (sym same) ∙ k
 passes_case false q x p r k e more = more e
 
-passes : (q : Placed → Bool) (ps : List Placed) (p : Placed) → find q ps ≡ Some p → q p ≡ true
+pub passes : (q : Placed → Bool) (ps : List Placed) (p : Placed) → find q ps ≡ Some p → q p ≡ true
 passes q [] p e = absurd (grind (arith, nat_tests))
 passes q (x ∷ ps) p e = passes_case (q x) q x p (find q ps) refl e (passes q ps p)
 
@@ -228,7 +228,7 @@ entry_case n a e (Some p) false room h k =
     let at : p.at + (a - p.item.item.address) ≡ e = grind (arith, nat_tests) in
     omega (arith, low, high, end, at)
 
-entry_inside : (n : ℕ) (ps : List Placed) (es : List Entry) (e : ℕ) → list_any (has_no_room n) ps ≡ false → entry ps es ≡ Some e → e < n
+pub entry_inside : (n : ℕ) (ps : List Placed) (es : List Entry) (e : ℕ) → list_any (has_no_room n) ps ≡ false → entry ps es ≡ Some e → e < n
 unfolding section
 entry_inside n ps [] e room h = default_low n ps e (find has_length ps) room refl h
 entry_inside n ps (x ∷ es) e room h = entry_case n x.address e (find (is_placed x.owner x.id) ps) (is_entry_outside ps x) (λ p k. in_room (is_placed x.owner x.id) n ps p room k) refl h

@@ -1,7 +1,7 @@
 -- From the passes to the image.
 use Rattle.std.proofs.Common.{◌≡◌, ℕ, List, [], Some, None, Result, Ok, Err, refl, ap}
 use Rattle.deck_model.specs.Deck.{Listing, listing}
-use Rattle.deck_model.specs.Image.{Image, image_at, image_of, unless_refused, violation, later_violation, first_doubled, same_id, same_name, item_number, places, place}
+use Rattle.deck_model.specs.Image.{Image, image_at, image_of, unless_refused, violation, later_violation, first_doubled, same_id, same_name, item_number, places, place, entry, image_byte, bytes_from}
 use Rattle.deck_model.specs.declared.decks.Placed.{Placed}
 use Rattle.deck_model.specs.declared.decks.DeckRefusal.{DeckRefusal}
 use Rattle.deck_model.specs.declared.decks.DeckRefusal.TheVariants.{NotCards, BadFirstByte, UnknownCard, BadCount, Unsupported, NoEnd, DuplicateId, DuplicateName, UnknownId, TextOutside, RldOutside, EntryOutside, Unresolved, NoRoom, NoMemory}
@@ -45,13 +45,17 @@ refuses_image o size d (TextOutside n) h = image_is o size d (Err (TextOutside n
 refuses_image o size d (RldOutside n) h = image_is o size d (Err (RldOutside n)) h
 refuses_image o size d (Unresolved n) h = image_is o size d (Err (Unresolved n)) h
 
-pub places_are : (l : Listing) (ps : List Placed) → ps ≡ place 65536 l.texts l.items → ps ≡ places 65536 l
+pub places_are : (o : ℕ) (l : Listing) (ps : List Placed) → ps ≡ place o l.texts l.items → ps ≡ places o l
 unfolding places
-places_are l ps e = e
+places_are o l ps e = e
 
 -- past the doubled ones, the first violation is the later one
 pub later_err : (n : ℕ) (l : Listing) (ps : List Placed) (i : Image) (r : DeckRefusal) → item_number (first_doubled same_id [] l.items) ≡ None → item_number (first_doubled same_name [] l.items) ≡ None → later_violation n l ps ≡ Some r → unless_refused (violation n l ps) i ≡ Err r
 later_err n l ps i r a b c = rw a (rw b (rw c refl))
 
-pub later_ok : (n : ℕ) (l : Listing) (ps : List Placed) (i : Image) → item_number (first_doubled same_id [] l.items) ≡ None → item_number (first_doubled same_name [] l.items) ≡ None → later_violation n l ps ≡ None → unless_refused (violation n l ps) i ≡ Ok i
-later_ok n l ps i a b c = rw a (rw b (rw c refl))
+pub no_violation : (n : ℕ) (l : Listing) (ps : List Placed) → item_number (first_doubled same_id [] l.items) ≡ None → item_number (first_doubled same_name [] l.items) ≡ None → later_violation n l ps ≡ None → violation n l ps ≡ None
+no_violation n l ps a b c = rw a (rw b c)
+
+-- the image of a deck without a violation
+pub sound_image : (o n : ℕ) (l : Listing) (bytes : List ℕ) (e : ℕ) → violation n l (places o l) ≡ None → bytes ≡ bytes_from (image_byte l (places o l)) 0 n → entry (places o l) l.entries ≡ Some e → image_of o n (Ok l) ≡ Ok (record { bytes = bytes; entry = e })
+sound_image o n l bytes e v b x = rw v (rw x (rw b refl))

@@ -1,5 +1,5 @@
 -- What the lists of the code stand for. Source: choice of this project.
-use Rattle.std.specs.Prelude.{◌≡◌, ◌≤◌, ℕ, All, ◌++◌, Bool, true, false, if◌then◌else◌, List, [], ◌∷◌, Option, Some, None, Result, Ok, Err}
+use Rattle.std.specs.Prelude.{◌≡◌, ◌≤◌, ℕ, All, length, ◌++◌, Bool, true, false, if◌then◌else◌, List, [], ◌∷◌, Option, Some, None, Result, Ok, Err}
 use Rattle.std.specs.List.{find}
 use Rattle.std.specs.declared.collections.BTreeMap.{BTreeMap}
 use Rattle.std.specs.declared.alloc.Global.{Global}
@@ -70,6 +70,11 @@ no_listing = record { items = []; texts = []; relocations = []; entries = []; us
 -- each relocation has the width of a constant
 abbrev pub WidthsFit : List Relocation → Type 0
 WidthsFit rs = All (λ (r : Relocation). (1 ≤ r.item.width) × (r.item.width ≤ 4)) rs
+
+-- each item has a name of eight bytes, and no address passes 2^32
+abbrev pub ItemsTyped : List Item → Type 0
+ItemsTyped is =
+    All (λ (i : Item). (length i.item.name ≡ 8) × (i.item.address ≤ 4294967296)) is
 
 abbrev pub with_entry : ℕ → ℕ → Listing → Option EntryPoint → Listing
 with_entry n m l None = l

@@ -24,7 +24,8 @@ pub fn store_all(storage: &mut AbsStorage, at: u32, bytes: &[u8])
     }
 }
 
-fn byte_at(storage: &AbsStorage, at: u32) -> u8
+/// The byte of the storage at an address, and 0 outside.
+pub fn byte_at(storage: &AbsStorage, at: u32) -> u8
     ensures { result ≡ slice_index storage.now at }
 {
     match storage.fetch(at) {

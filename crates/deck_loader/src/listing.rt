@@ -3,7 +3,7 @@ ghost use Rattle.std.specs.Prelude.{◌≡◌, ◌+◌, ◌-◌, ◌*◌, ◌/�
 ghost use Rattle.deck_model.specs.Card.{card_of};
 ghost use Rattle.deck_model.specs.CardWriting.{card_fits};
 ghost use Rattle.deck_model.specs.Deck.{is_end, card_refusal, listing};
-ghost use Rattle.deck_loader.specs.Listed.{listed, no_listing, with_card, with_entry, ReadsAs, WidthsFit};
+ghost use Rattle.deck_loader.specs.Listed.{listed, no_listing, with_card, with_entry, ItemsTyped, ReadsAs, WidthsFit};
 
 use crate::pushes::{push_items, push_label_uses, push_pointer_uses, push_relocations};
 use card_deck::read_card;
@@ -33,6 +33,7 @@ fn is_end_card(card: &Card) -> bool
 fn add_entry(lists: Lists, number: u32, owner: u32, e: EntryPoint) -> Result<Lists, AllocError>
     ensures lists { IfOk result (λ l. listed l ≡ with_entry number owner (listed lists) (Some e)) }
     ensures few { IfOk result (λ l. length l.items.items ≡ length lists.items.items) }
+    ensures items { IfOk result (λ l. l.items.items ≡ lists.items.items) }
     ensures relocations { IfOk result (λ l. l.relocations.items ≡ lists.relocations.items) }
 {
     let mut lists = lists;
@@ -53,9 +54,11 @@ fn add_entry(lists: Lists, number: u32, owner: u32, e: EntryPoint) -> Result<Lis
 
 fn add_card(lists: Lists, number: u32, owner: u32, card: Card) -> Result<Lists, AllocError>
     requires fits { IsTrue (card_fits card) }
+    requires typed { ItemsTyped lists.items.items }
     requires widths { WidthsFit lists.relocations.items }
     ensures lists { IfOk result (λ l. listed l ≡ with_card number owner (listed lists) card) }
     ensures few { IfOk result (λ l. length l.items.items ≤ length lists.items.items + 3) }
+    ensures typed { IfOk result (λ l. ItemsTyped l.items.items) }
     ensures widths { IfOk result (λ l. WidthsFit l.relocations.items) }
 {
     let mut lists = lists;
@@ -132,6 +135,7 @@ fn next_owner(owner: u32, end: bool) -> u32
 fn empty_lists(alloc: Global) -> Lists
     ensures lists { listed result ≡ no_listing }
     ensures none { length result.items.items ≡ 0 }
+    ensures typed { ItemsTyped result.items.items }
     ensures widths { WidthsFit result.relocations.items }
 {
     Lists {
@@ -148,6 +152,7 @@ pub fn read_deck(alloc: Global, deck: &[u8]) -> Result<Lists, DeckRefusal>
     requires { length deck.now < 2 ^ 32 }
     ensures lists { ReadsAs (listing deck.now) result }
     ensures few { IfOk result (λ l. length l.items.items ≤ 268435456) }
+    ensures typed { IfOk result (λ l. ItemsTyped l.items.items) }
     ensures widths { IfOk result (λ l. WidthsFit l.relocations.items) }
 {
     if deck.len() % 80 != 0 {

@@ -1,73 +1,51 @@
 //! A deck loaded into a storage.
-ghost use Rattle.std.specs.Prelude.{◌≡◌, ◌<◌, ◌≤◌, ◌^◌, length, replicate, IfOk, Ok, None};
-ghost use Rattle.deck_model.specs.Image.{image, image_of, image_byte, bytes_from, places, later_violation};
-ghost use Rattle.deck_loader.specs.Indexed.{IndexesIds, IndexesNames, IndexesSections};
+ghost use Rattle.std.specs.Prelude.{◌≡◌, ◌<◌, ◌≤◌, ◌^◌, length, replicate, IfOk, Ok};
+ghost use Rattle.deck_model.specs.Image.{image, image_of, image_byte, bytes_from};
+ghost use Rattle.deck_loader.specs.Accepted.{FitsInto};
 ghost use Rattle.deck_loader.specs.Listed.{listed, WidthsFit, TextsAreUsed};
 ghost use Rattle.deck_loader.specs.Loaded.{Loads};
 
-use crate::checks::checked_entry;
-use crate::ends::text_ends;
+use crate::accepting::{Accepted, accept_lists};
 use crate::listing::{Lists, read_deck};
-use crate::lookup::{index_ids, index_names, index_sections};
-use crate::place::place_sections;
 use crate::write::{relocate_all, write_texts};
 use abs_storage::AbsStorage;
-use deck_model::decks::{DeckRefusal, Loaded, Placed};
+use deck_model::decks::{DeckRefusal, Loaded};
 use std::alloc::Global;
-use std::collections::BTreeMap;
 
-// Writes the texts of an accepted deck, and then its relocations.
-fn carry_out(
-    storage: &mut AbsStorage,
-    lists: &Lists,
-    placed: &[Placed],
-    sections: &BTreeMap<u64, usize>,
-    ids: &BTreeMap<u64, usize>,
-    by_name: &BTreeMap<u64, usize>,
-)
-    requires sections { IndexesSections placed.now sections.now }
-    requires ids { IndexesIds lists.now.items.items ids.now }
-    requires names { IndexesNames lists.now.items.items by_name.now }
+/// Writes the texts of an accepted deck into a storage of zeros, and then its relocations.
+pub fn carry_out(storage: &mut AbsStorage, deck: &Accepted)
+    requires fits { FitsInto (length storage.old) deck.now }
     requires most { length storage.old ≤ 16777216 }
     requires zero { storage.old ≡ replicate (length storage.old) 0 }
-    requires widths { WidthsFit lists.now.relocations.items }
-    requires used { TextsAreUsed (listed lists.now) }
-    requires placed { placed.now ≡ places 65536 (listed lists.now) }
-    requires accepted { later_violation (length storage.old) (listed lists.now) placed.now ≡ None }
     ensures { storage.new
-        ≡ bytes_from (image_byte (listed lists.now) placed.now) 0 (length storage.old) }
+        ≡ bytes_from (image_byte (listed deck.now.lists) deck.now.placed.items) 0
+        (length storage.old) }
 {
-    write_texts(storage, placed, sections, &lists.texts);
+    write_texts(storage, &deck.placed, &deck.sections, &deck.lists.texts);
     relocate_all(
         storage,
-        &lists.items,
-        ids,
-        by_name,
-        placed,
-        sections,
-        &lists.relocations,
+        &deck.lists.items,
+        &deck.ids,
+        &deck.by_name,
+        &deck.placed,
+        &deck.sections,
+        &deck.lists.relocations,
     );
 }
 
-fn load_lists(alloc: Global, lists: &Lists, storage: &mut AbsStorage) -> Result<Loaded, DeckRefusal>
-    requires few { length lists.now.items.items ≤ 268435456 }
-    requires widths { WidthsFit lists.now.relocations.items }
-    requires used { TextsAreUsed (listed lists.now) }
+fn load_lists(alloc: Global, lists: Lists, storage: &mut AbsStorage) -> Result<Loaded, DeckRefusal>
+    requires few { length lists.items.items ≤ 268435456 }
+    requires widths { WidthsFit lists.relocations.items }
+    requires used { TextsAreUsed (listed lists) }
     requires zero { storage.old ≡ replicate (length storage.old) 0 }
-    ensures image { Loads (image_of 65536 (length storage.old) (Ok (listed lists.now)))
+    ensures image { Loads (image_of 65536 (length storage.old) (Ok (listed lists)))
         storage.old storage.new result }
     ensures inside { IfOk result (λ l. l.address < length storage.old) }
 {
-    let ids = index_ids(alloc, &lists.items)?;
-    let by_name = index_names(alloc, &lists.items)?;
-    let ends = text_ends(alloc, &lists.texts)?;
-    let placed = place_sections(alloc, &lists.items, &lists.texts, &ends)?;
-    let sections = index_sections(alloc, &placed)?;
-    let size = storage.size();
-    let entry = checked_entry(size, lists, &placed, &sections, &ids, &by_name)?;
-    carry_out(storage, lists, &placed, &sections, &ids, &by_name);
+    let deck = accept_lists(alloc, 0x1_0000, storage.size(), lists)?;
+    carry_out(storage, &deck);
     Ok(Loaded {
-        address: entry as u32,
+        address: deck.entry as u32,
     })
 }
 
@@ -81,5 +59,5 @@ pub fn load(alloc: Global, deck: &[u8], storage: &mut AbsStorage) -> Result<Load
     ensures inside { IfOk result (λ l. l.address < length storage.old) }
 {
     let lists = read_deck(alloc, deck)?;
-    load_lists(alloc, &lists, storage)
+    load_lists(alloc, lists, storage)
 }

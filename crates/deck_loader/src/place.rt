@@ -31,20 +31,22 @@ fn length_for(s: &Item, texts: &[Text], ends: &BTreeMap<u64, u64>) -> u64
     end_at(ends, key_of(s.owner, s.id)).saturating_sub(u64::from(s.item.address))
 }
 
-/// The sections at their places from the load origin on, in the order of their items.
+/// The sections at their places from an origin on, in the order of their items.
 pub fn place_sections(
     alloc: Global,
+    origin: u64,
     items: &[Item],
     texts: &[Text],
     ends: &BTreeMap<u64, u64>,
 ) -> Result<Vec<Placed>, AllocError>
+    requires origin { origin < 4294967296 }
     requires few { length items.now ≤ 268435456 }
     requires ends { KeepsEnds texts.now ends.now }
-    ensures places { IfOk result (λ v. v.items ≡ place 65536 texts.now items.now) }
+    ensures places { IfOk result (λ v. v.items ≡ place origin texts.now items.now) }
     ensures low { IfOk result (λ v. All (λ p. p.at < 2 ^ 63) v.items) }
 {
     let mut placed = Vec::new(alloc);
-    let mut from: u64 = 0x1_0000;
+    let mut from = origin;
     let mut rest = items;
     while let Some((item, after)) = rest.split_first() {
         rest = after;

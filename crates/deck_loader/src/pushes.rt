@@ -1,9 +1,9 @@
 //! What a card adds to the lists of a deck.
-ghost use Rattle.std.specs.Prelude.{◌≡◌, ◌+◌, ◌≤◌, ◌++◌, length, OnOk, IsTrue};
+ghost use Rattle.std.specs.Prelude.{◌≡◌, ◌+◌, ◌≤◌, ◌++◌, [], ◌∷◌, length, OnOk, IsTrue};
 ghost use Rattle.std.specs.List.{list_all};
-ghost use Rattle.deck_model.specs.CardWriting.{rld_item_fits};
+ghost use Rattle.deck_model.specs.CardWriting.{esd_item_fits, rld_item_fits};
 ghost use Rattle.deck_model.specs.Deck.{esd_list, label_uses, rld_list, pointer_uses, is_label};
-ghost use Rattle.deck_loader.specs.Listed.{WidthsFit};
+ghost use Rattle.deck_loader.specs.Listed.{ItemsTyped, WidthsFit};
 
 use deck_model::cards::{EsdItem, RldItem, Sort};
 use deck_model::decks::{Item, Relocation, Use};
@@ -18,6 +18,26 @@ fn is_label_sort(sort: Sort) -> bool
     }
 }
 
+// An item of a card that fits.
+fn item_of(number: u32, owner: u32, id: u32, item: &EsdItem) -> Item
+    requires { IsTrue (esd_item_fits item.now) }
+    ensures item { result ∷ [] ≡ esd_list number owner id (item.now ∷ []) }
+    ensures named { length result.item.name ≡ 8 }
+    ensures low { result.item.address ≤ 4294967296 }
+{
+    Item {
+        number,
+        owner,
+        id,
+        item: EsdItem {
+            name: item.name,
+            sort: item.sort,
+            address: item.address,
+            extent: item.extent,
+        },
+    }
+}
+
 pub fn push_items(
     items: &mut Vec<Item>,
     number: u32,
@@ -25,20 +45,18 @@ pub fn push_items(
     first: u16,
     list: &[EsdItem],
 ) -> Result<(), AllocError>
-    requires { length list.now ≤ 3 }
+    requires short { length list.now ≤ 3 }
+    requires fit { IsTrue (list_all esd_item_fits list.now) }
+    requires typed { ItemsTyped items.old.items }
     ensures items { OnOk result (items.new.items
         ≡ items.old.items ++ esd_list number owner first list.now) }
     ensures few { OnOk result (length items.new.items ≤ length items.old.items + 3) }
+    ensures typed { OnOk result (ItemsTyped items.new.items) }
 {
     let mut id = u32::from(first);
     let mut rest = list;
     while let Some((item, after)) = rest.split_first() {
-        items.push(Item {
-            number,
-            owner,
-            id,
-            item: *item,
-        })?;
+        items.push(item_of(number, owner, id, item))?;
         id += if is_label_sort(item.sort) { 0 } else { 1 };
         rest = after;
     }

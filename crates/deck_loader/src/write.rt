@@ -12,7 +12,8 @@ use deck_model::cards::Sort;
 use deck_model::decks::{Item, Placed, Relocation, Text};
 use std::collections::BTreeMap;
 
-fn text_place(placed: &[Placed], sections: &BTreeMap<u64, usize>, t: &Text) -> u64
+/// Where a text lies in the storage.
+pub fn text_place(placed: &[Placed], sections: &BTreeMap<u64, usize>, t: &Text) -> u64
     requires { IndexesSections placed.now sections.now }
     ensures { result ≡ text_at placed.now t.now }
 {
@@ -20,7 +21,8 @@ fn text_place(placed: &[Placed], sections: &BTreeMap<u64, usize>, t: &Text) -> u
     p.at + u64::from(t.address.saturating_sub(p.item.item.address))
 }
 
-fn constant_place(placed: &[Placed], sections: &BTreeMap<u64, usize>, r: &Relocation) -> u64
+/// Where a constant lies in the storage.
+pub fn constant_place(placed: &[Placed], sections: &BTreeMap<u64, usize>, r: &Relocation) -> u64
     requires { IndexesSections placed.now sections.now }
     ensures { result ≡ constant_at placed.now r.now }
 {
@@ -49,7 +51,8 @@ pub fn write_texts(
     }
 }
 
-fn load_address_of(placed: &[Placed], sections: &BTreeMap<u64, usize>, i: &Item) -> u64
+/// The load address of an item that defines a name; 2^32 is added to that of a label.
+pub fn load_address_of(placed: &[Placed], sections: &BTreeMap<u64, usize>, i: &Item) -> u64
     requires { IndexesSections placed.now sections.now }
     ensures { result ≡ load_address placed.now i.now }
 {

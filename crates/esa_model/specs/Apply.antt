@@ -13,6 +13,16 @@ abbrev pub put_all : ℕ → List ℕ → List ℕ → List ℕ
 put_all a [] storage = storage
 put_all a (x ∷ xs) storage = put_all (a + 1) xs (slice_set storage a x)
 
+-- bytes to be stored from an absolute address on
+pub record Piece : Type 0 where
+  pub at : ℕ
+  pub bytes : List ℕ
+
+-- the storage after pieces are stored in their order
+abbrev pub stored_all : List Piece → List ℕ → List ℕ
+stored_all [] storage = storage
+stored_all (p ∷ ps) storage = stored_all ps (put_all p.at p.bytes storage)
+
 abbrev pub change_all : ℕ → List ℕ → List ℕ → List ℕ
 change_all a [] keys = keys
 change_all a (x ∷ xs) keys = change_all (a + 1) xs (slice_set keys (a / 4096) (with_change (key_at keys (a / 4096))))

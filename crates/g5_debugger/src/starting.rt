@@ -12,6 +12,7 @@ use crate::session::{Report, Session};
 use g5_machine::Machine;
 use machine_runs::TwinMachine;
 use run_loop::none_made;
+use run_model::outputs::Counts;
 use turn_schedule::Schedule;
 
 impl Session {
@@ -48,11 +49,18 @@ impl Session {
         }
     }
 
-    /// The counts of the turns that the session made.
+    /// All that is counted of the turns that the session made.
+    pub fn made(&self) -> Counts
+        ensures { result ≡ self.now.reached.made }
+    {
+        self.reached.made
+    }
+
+    /// The counts of the turns that the session made, as a report has them.
     pub fn report(&self) -> Report
         ensures { result ≡ report_on self.now.reached.made }
     {
-        let made = self.reached.made;
+        let made = self.made();
         Report {
             turns: made.turns,
             commits: made.commits,

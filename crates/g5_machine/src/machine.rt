@@ -3,9 +3,10 @@ ghost use Rattle.core_turns.specs.Places.{EachInOnePlace};
 ghost use Rattle.g5_machine.specs.Fits.{IsFitting, all_there};
 
 use crate::counts::Counts;
-use core_turns::{Held, Memory, SparePool};
+use core_turns::{Held, SparePool};
 use result_packet::Side;
 use run_model::logs::Config;
+use seen_memory::Memory;
 
 /// A machine: what is held for each CPU, the cores that no CPU has, the storage, the keys, states,
 /// requests and console input, and what it counts.

@@ -15,13 +15,14 @@ use crate::counts::Counts;
 use crate::machine::Machine;
 use abs_storage::AbsStorage;
 use core_states::SpareCore;
-use core_turns::{Held, Memory, SparePool, are_registers};
+use core_turns::{Held, SparePool, are_registers};
 use deck_model::decks::Loaded;
 use esa_model::machine::{Psw, Registers};
 use esa_model::memory::NoMemory;
 use result_packet::{Console, Side};
 use run_model::faults::CoreNo;
 use run_model::logs::Config;
+use seen_memory::Memory;
 use sigp_bus::Bus;
 use silicon::Silicon;
 use sparing::Pool;
@@ -165,13 +166,14 @@ impl Machine {
         let mut cpus = Vec::with_capacity(alloc, config.cpus as usize)?;
         let keys = Keys::new(alloc, (storage.size() / 4096) as u16)?;
         let bus = Bus::new(alloc, config.cpus)?;
+        let memory = Memory::new(alloc, storage)?;
         add_spares(&mut pool, config.spares);
         wake_cores(&mut cpus, config.cpus, entry.address, z);
         Ok(Machine {
             config,
             cpus,
             pool,
-            memory: Memory::new(storage),
+            memory,
             side: Side {
                 keys,
                 bus,

@@ -56,6 +56,14 @@ impl Machine {
         self.memory.read(at)
     }
 
+    /// How often the cache of a CPU's core was filled with a line, up to the greatest number of 64
+    /// bits. No clause says how often; `Cache::fetch` says it of each fetch.
+    pub fn fills(&self, cpu: CpuNo) -> u64
+        requires known { cpu.0 < self.now.config.cpus }
+    {
+        self.memory.fills(self.core(cpu))
+    }
+
     /// The key of a block of 4,096 bytes, `None` exactly outside the storage.
     pub fn key_of(&self, block: u16) -> Option<u8>
         ensures { (z : Chip) → (x : Model) → StandsFor self.now z x

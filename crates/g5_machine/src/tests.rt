@@ -1,5 +1,7 @@
 // Small programs on machines whose silicon lands the strikes of short scripts. What they tell was
 // worked by hand from the Principles of Operation and the rules of retry and sparing.
+mod buffered;
+mod cached;
 mod several;
 
 ghost use Rattle.std.specs.Prelude.{◌≡◌, ◌<◌, ◌*◌, ◌^◌, IsTrue, length};

@@ -1,5 +1,5 @@
 -- The headline, from how the program ends.
-use Rattle.std.proofs.Common.{◌≡◌, ℕ, suc, ◌+◌, ◌≤◌, Bool, true, false, List, [], ◌∷◌, ◌++◌, length, take, refl, sym, ap, ◌∙◌, subst, arith, append-nil, inl, inr, if◌then◌else◌}
+use Rattle.std.proofs.Common.{◌≡◌, ℕ, ◌+◌, ◌≤◌, Bool, true, false, List, [], ◌∷◌, ◌++◌, length, take, refl, sym, ap, ◌∙◌, subst, arith, append-nil, inl, inr, if◌then◌else◌}
 use Rattle.std.specs.Prelude.{map, ◌==◌, ◌||◌}
 use Rattle.std.specs.List.{list_any}
 use Rattle.std.proofs.lemmas.Bool.{cases_eq, ne_eqb, false≢true}
@@ -15,20 +15,18 @@ use Rattle.run_laws.proofs.Premised.{within_sound}
 use Rattle.run_laws.proofs.Same.{same_console, same_trace, text_append}
 use Rattle.run_laws.proofs.Summing.{counted}
 use Rattle.run_loop.specs.Engines.{FailsAsStruck}
-use Rattle.run_model.specs.declared.faults.Strike.{Strike}
 use Rattle.run_model.specs.declared.logs.Config.{Config}
 use Rattle.run_model.specs.declared.logs.Entry.{Entry}
 use Rattle.run_model.specs.declared.outputs.Counts.{Counts}
 use Rattle.run_model.specs.declared.outputs.Place.{Place}
 use Rattle.run_model.specs.declared.outputs.Place.TheVariants.{Log, Trace, Out}
-use Rattle.run_model.specs.declared.schedules.RunKind.{RunKind}
 use Rattle.run_model.specs.Cores.{Choice}
 use Rattle.run_model.specs.Counts.{counts}
 use Rattle.run_model.specs.Fate.{Sound}
 use Rattle.run_model.specs.LogLines.{head, tail}
 use Rattle.run_model.specs.Pieces.{piece, same_place, text}
 use Rattle.run_model.specs.Premise.{Within}
-use Rattle.run_model.specs.Runs.{Model, Told, entries, first_model, run_after, run_tells, turned}
+use Rattle.run_model.specs.Runs.{Told, entries, first_model, run_after}
 use Rattle.run_model.specs.Sorts.{how_many, is_stop, is_stop_entry, of_sort}
 use Rattle.run_model.specs.Texts.{turns_pieces, whole}
 use Rattle.g5_run.specs.Ends.{EndsWhole}

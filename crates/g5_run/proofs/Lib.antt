@@ -1,8 +1,12 @@
 pub mod Named
 pub mod Accepted
 pub mod Consequences
+pub mod MadeWhole
+pub mod Completing
+pub mod KeysKept
 pub mod Headlines
 pub mod Headed
 pub mod Ending
 pub mod Telling
 pub mod Summaries
+pub mod Failing

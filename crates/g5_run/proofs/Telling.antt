@@ -3,7 +3,7 @@ use Rattle.std.proofs.Common.{◌≡◌, ℕ, ◌≤◌, Bool, true, false, List
 use Rattle.std.specs.Prelude.{◌==◌, codes, option_and_then}
 use Rattle.g5_outside.specs.Views.{ShelfView, SinkView}
 use Rattle.g5_words.specs.Ranges.{IsInLimits}
-use Rattle.program_model.specs.Commands.{Command, JobNames, audit, command, generate, migrate, run}
+use Rattle.program_model.specs.Commands.{Command, JobNames, SessionNames, audit, command, debug, disassemble, generate, migrate, run}
 use Rattle.program_model.specs.Given.{Text}
 use Rattle.program_model.specs.Inputs.{input_name}
 use Rattle.program_model.specs.Statuses.{line_of}
@@ -14,11 +14,13 @@ use Rattle.run_model.specs.declared.outputs.Counts.{Counts}
 use Rattle.run_model.specs.Texts.{report}
 use Rattle.status_lines.specs.Says.{Says}
 use Rattle.g5_run.specs.Asked.{asked, if_built}
+use Rattle.g5_run.specs.Conversing.{DebugEnds}
 use Rattle.g5_run.specs.Converts.{MigrateEnds}
-use Rattle.g5_run.specs.Ends.{Ends, EndsWhole, JobEnds, Reports}
+use Rattle.g5_run.specs.Ends.{CommandEnds, Ends, EndsWhole, JobEnds, Reports, SaysAlone}
 use Rattle.g5_run.specs.Generates.{GenEnds}
 use Rattle.g5_run.specs.Judges.{AuditEnds}
-use Rattle.g5_run.specs.Leaving.{SiliconAfter, status_by}
+use Rattle.g5_run.specs.Leaving.{Beside, SiliconAfter, status_by}
+use Rattle.g5_run.specs.Shows.{DisEnds}
 
 -- ---- a run that was made to its end is reported
 
@@ -52,134 +54,107 @@ pub asked_none : (words : List Text) → command words ≡ None → asked words 
 unfolding asked
 asked_none words e = ap (option_and_then if_built) e
 
--- ---- the end of a run is that of the program
+-- ---- the end of a command is that of the program
 
 no_memory_line : (d : Command) → line_of (input_name d) NoMemory ≡ codes "no memory\n"
 unfolding line_of
 no_memory_line d = refl
 
-by_run : (names : JobNames) (c : Config) (a b : ShelfView) (o p e f : SinkView) (z : SiliconAfter)
-    (status : Status) → IsInLimits c → JobEnds names c a b o p e f z status
-    → Ends (Some (run names c)) a b o p e f z status
-by_run names c a b o p e f z Done l h = (l, h)
-by_run names c a b o p e f z CheckStopped l h = (l, h)
-by_run names c a b o p e f z Usage l h = absurd h.0.because
-by_run names c a b o p e f z (NoFile input) l h = (l, h)
-by_run names c a b o p e f z ReadFault l h = (l, h)
-by_run names c a b o p e f z WriteFault l h = (l, h)
-by_run names c a b o p e f z (DeckRefused r) l h = (l, h)
-by_run names c a b o p e f z (ScheduleRefused r) l h = (l, h)
-by_run names c a b o p e f z (ScriptRefused r) l h = (l, h)
-by_run names c a b o p e f z (TooLarge input) l h = (l, h)
-by_run names c a b o p e f z NoMemory l h = record {
-  untouched = h.0.untouched;
-  said = subst (λ t. Says t e f) (no_memory_line (run names c)) h.1;
-}
-by_run names c a b o p e f z (LogRefused r) l h = (l, h)
-by_run names c a b o p e f z (SourceRefused r) l h = (l, h)
-by_run names c a b o p e f z (LinkRefused r) l h = (l, h)
-by_run names c a b o p e f z (SaveRefused r) l h = (l, h)
-by_run names c a b o p e f z (AuditNo r) l h = (l, h)
+says_no_memory : (d : Command) (e f : SinkView) → Says (line_of (input_name d) NoMemory) e f
+    → Says (codes "no memory\n") e f
+says_no_memory d e f h = subst (λ t. Says t e f) (no_memory_line d) h
+
+abbrev LacksMemory : ShelfView → ShelfView → SinkView → SinkView → SinkView → SinkView → Type 0
+LacksMemory a b o p e f = SaysAlone (codes "no memory\n") a b o p e f
+
+-- no command ends with Usage, and each says the same where memory is wanted
+command_ends : (ask : Option Command) (a b : ShelfView) (o p e f : SinkView) (z : Beside)
+    (status : Status) → CommandEnds ask a b o p e f z status
+    → (CommandEnds ask a b o p e f z Usage → ⊥)
+    → (CommandEnds ask a b o p e f z NoMemory → LacksMemory a b o p e f)
+    → Ends ask a b o p e f z status
+command_ends ask a b o p e f z Done h usage memory = h
+command_ends ask a b o p e f z CheckStopped h usage memory = h
+command_ends ask a b o p e f z Usage h usage memory = absurd (usage h)
+command_ends ask a b o p e f z (NoFile input) h usage memory = h
+command_ends ask a b o p e f z ReadFault h usage memory = h
+command_ends ask a b o p e f z WriteFault h usage memory = h
+command_ends ask a b o p e f z (DeckRefused r) h usage memory = h
+command_ends ask a b o p e f z (ScheduleRefused r) h usage memory = h
+command_ends ask a b o p e f z (ScriptRefused r) h usage memory = h
+command_ends ask a b o p e f z (TooLarge input) h usage memory = h
+command_ends ask a b o p e f z NoMemory h usage memory = memory h
+command_ends ask a b o p e f z (LogRefused r) h usage memory = h
+command_ends ask a b o p e f z (SourceRefused r) h usage memory = h
+command_ends ask a b o p e f z (LinkRefused r) h usage memory = h
+command_ends ask a b o p e f z (SaveRefused r) h usage memory = h
+command_ends ask a b o p e f z (AuditNo r) h usage memory = h
 
 pub run_ends : (ask : Option Command) (names : JobNames) (c : Config) (a b : ShelfView)
-    (o p e f : SinkView) (z : SiliconAfter) (status : Status) → ask ≡ Some (run names c) → IsInLimits c
-    → JobEnds names c a b o p e f z status → Ends ask a b o p e f z status
+    (o p e f : SinkView) (z : Beside) (status : Status) → ask ≡ Some (run names c) → IsInLimits c
+    → JobEnds names c a b o p e f z.silicon status → Ends ask a b o p e f z status
 run_ends ask names c a b o p e f z status is l h =
-    subst (λ q. Ends q a b o p e f z status) (sym is) (by_run names c a b o p e f z status l h)
+    subst (λ q. Ends q a b o p e f z status) (sym is)
+    (command_ends (Some (run names c)) a b o p e f z status (l, h) (λ u. u.1.0.because)
+    (λ m. record {
+      untouched = m.1.0.untouched;
+      said = says_no_memory (run names c) e f m.1.1;
+    }))
 
--- ---- and so is the end of the run of a generated input
-
-by_generate : (number turns : ℕ) (a : ShelfView) (o p e f : SinkView) (z : SiliconAfter)
-    (status : Status) → 1 ≤ turns → turns ≤ 1000000 → GenEnds number turns o p e f z status
-    → Ends (Some (generate number turns)) a a o p e f z status
-by_generate number turns a o p e f z Done some few h =
-    record { some = some; few = few; shelf = refl; ends = h }
-by_generate number turns a o p e f z CheckStopped some few h =
-    record { some = some; few = few; shelf = refl; ends = h }
-by_generate number turns a o p e f z Usage some few h = absurd h
-by_generate number turns a o p e f z (NoFile input) some few h = absurd h
-by_generate number turns a o p e f z ReadFault some few h = absurd h
-by_generate number turns a o p e f z WriteFault some few h =
-    record { some = some; few = few; shelf = refl; ends = h }
-by_generate number turns a o p e f z (DeckRefused r) some few h = absurd h
-by_generate number turns a o p e f z (ScheduleRefused r) some few h = absurd h
-by_generate number turns a o p e f z (ScriptRefused r) some few h = absurd h
-by_generate number turns a o p e f z (TooLarge input) some few h = absurd h
-by_generate number turns a o p e f z NoMemory some few h = record {
-  untouched = record { numbers = refl; out = h.0 };
-  said = subst (λ t. Says t e f) (no_memory_line (generate number turns)) h.1;
-}
-by_generate number turns a o p e f z (LogRefused r) some few h = absurd h
-by_generate number turns a o p e f z (SourceRefused r) some few h = absurd h
-by_generate number turns a o p e f z (LinkRefused r) some few h = absurd h
-by_generate number turns a o p e f z (SaveRefused r) some few h = absurd h
-by_generate number turns a o p e f z (AuditNo r) some few h = absurd h
+pub debug_ends : (ask : Option Command) (names : SessionNames) (c : Config) (a b : ShelfView)
+    (o p e f : SinkView) (z : Beside) (status : Status) → ask ≡ Some (debug names c) → IsInLimits c
+    → DebugEnds names c a b o p e f z status → Ends ask a b o p e f z status
+debug_ends ask names c a b o p e f z status is l h =
+    subst (λ q. Ends q a b o p e f z status) (sym is)
+    (command_ends (Some (debug names c)) a b o p e f z status (l, h) (λ u. u.1.0.because)
+    (λ m. record {
+      untouched = record { numbers = m.1.0.numbers; out = m.1.0.out };
+      said = says_no_memory (debug names c) e f m.1.1;
+    }))
 
 pub gen_ends : (ask : Option Command) (number turns : ℕ) (a : ShelfView) (o p e f : SinkView)
-    (z : SiliconAfter) (status : Status) → ask ≡ Some (generate number turns) → 1 ≤ turns
-    → turns ≤ 1000000 → GenEnds number turns o p e f z status → Ends ask a a o p e f z status
+    (z : Beside) (status : Status) → ask ≡ Some (generate number turns) → 1 ≤ turns
+    → turns ≤ 1000000 → GenEnds number turns o p e f z.silicon status
+    → Ends ask a a o p e f z status
 gen_ends ask number turns a o p e f z status is some few h =
     subst (λ q. Ends q a a o p e f z status) (sym is)
-    (by_generate number turns a o p e f z status some few h)
-
--- ---- and that of a migration
-
-by_migrate : (old new : Text) (a b : ShelfView) (o e f : SinkView) (z : SiliconAfter)
-    (status : Status) → MigrateEnds old new a b e f status
-    → Ends (Some (migrate old new)) a b o o e f z status
-by_migrate old new a b o e f z Done h = record { out = refl; ends = h }
-by_migrate old new a b o e f z CheckStopped h = record { out = refl; ends = h }
-by_migrate old new a b o e f z Usage h = absurd h.0.1
-by_migrate old new a b o e f z (NoFile input) h = record { out = refl; ends = h }
-by_migrate old new a b o e f z ReadFault h = record { out = refl; ends = h }
-by_migrate old new a b o e f z WriteFault h = record { out = refl; ends = h }
-by_migrate old new a b o e f z (DeckRefused r) h = record { out = refl; ends = h }
-by_migrate old new a b o e f z (ScheduleRefused r) h = record { out = refl; ends = h }
-by_migrate old new a b o e f z (ScriptRefused r) h = record { out = refl; ends = h }
-by_migrate old new a b o e f z (TooLarge input) h = record { out = refl; ends = h }
-by_migrate old new a b o e f z NoMemory h = record {
-  untouched = record { numbers = h.0.0; out = refl };
-  said = subst (λ t. Says t e f) (no_memory_line (migrate old new)) h.1;
-}
-by_migrate old new a b o e f z (LogRefused r) h = record { out = refl; ends = h }
-by_migrate old new a b o e f z (SourceRefused r) h = record { out = refl; ends = h }
-by_migrate old new a b o e f z (LinkRefused r) h = record { out = refl; ends = h }
-by_migrate old new a b o e f z (SaveRefused r) h = record { out = refl; ends = h }
-by_migrate old new a b o e f z (AuditNo r) h = record { out = refl; ends = h }
+    (command_ends (Some (generate number turns)) a a o p e f z status
+    (record { some = some; few = few; shelf = refl; ends = h }) (λ u. u.ends)
+    (λ m. record {
+      untouched = record { numbers = refl; out = m.ends.0 };
+      said = says_no_memory (generate number turns) e f m.ends.1;
+    }))
 
 pub migrate_ends : (ask : Option Command) (old new : Text) (a b : ShelfView) (o e f : SinkView)
-    (z : SiliconAfter) (status : Status) → ask ≡ Some (migrate old new)
+    (z : Beside) (status : Status) → ask ≡ Some (migrate old new)
     → MigrateEnds old new a b e f status → Ends ask a b o o e f z status
 migrate_ends ask old new a b o e f z status is h =
-    subst (λ q. Ends q a b o o e f z status) (sym is) (by_migrate old new a b o e f z status h)
+    subst (λ q. Ends q a b o o e f z status) (sym is)
+    (command_ends (Some (migrate old new)) a b o o e f z status (record { out = refl; ends = h })
+    (λ u. u.ends.0.1)
+    (λ m. record {
+      untouched = record { numbers = m.ends.0.0; out = refl };
+      said = says_no_memory (migrate old new) e f m.ends.1;
+    }))
 
--- ---- and that of an audit
-
-by_audit : (log : Text) (a b : ShelfView) (o p e f : SinkView) (z : SiliconAfter)
-    (status : Status) → AuditEnds log a b o p e f status
-    → Ends (Some (audit log)) a b o p e f z status
-by_audit log a b o p e f z Done h = h
-by_audit log a b o p e f z CheckStopped h = h
-by_audit log a b o p e f z Usage h = absurd h.0.why
-by_audit log a b o p e f z (NoFile input) h = h
-by_audit log a b o p e f z ReadFault h = h
-by_audit log a b o p e f z WriteFault h = h
-by_audit log a b o p e f z (DeckRefused r) h = h
-by_audit log a b o p e f z (ScheduleRefused r) h = h
-by_audit log a b o p e f z (ScriptRefused r) h = h
-by_audit log a b o p e f z (TooLarge input) h = h
-by_audit log a b o p e f z NoMemory h = record {
-  untouched = record { numbers = h.0.numbers; out = h.0.out };
-  said = subst (λ t. Says t e f) (no_memory_line (audit log)) h.1;
-}
-by_audit log a b o p e f z (LogRefused r) h = h
-by_audit log a b o p e f z (SourceRefused r) h = h
-by_audit log a b o p e f z (LinkRefused r) h = h
-by_audit log a b o p e f z (SaveRefused r) h = h
-by_audit log a b o p e f z (AuditNo r) h = h
+pub dis_ends : (ask : Option Command) (deck : Text) (at count : ℕ) (a b : ShelfView)
+    (o p e f : SinkView) (z : Beside) (status : Status) → ask ≡ Some (disassemble deck at count)
+    → DisEnds deck at count a b o p e f status → Ends ask a b o p e f z status
+dis_ends ask deck at count a b o p e f z status is h =
+    subst (λ q. Ends q a b o p e f z status) (sym is)
+    (command_ends (Some (disassemble deck at count)) a b o p e f z status h (λ u. u.0.why)
+    (λ m. record {
+      untouched = record { numbers = m.0.numbers; out = m.0.out };
+      said = says_no_memory (disassemble deck at count) e f m.1;
+    }))
 
 pub audit_ends : (ask : Option Command) (log : Text) (a b : ShelfView) (o p e f : SinkView)
-    (z : SiliconAfter) (status : Status) → ask ≡ Some (audit log)
+    (z : Beside) (status : Status) → ask ≡ Some (audit log)
     → AuditEnds log a b o p e f status → Ends ask a b o p e f z status
 audit_ends ask log a b o p e f z status is h =
-    subst (λ q. Ends q a b o p e f z status) (sym is) (by_audit log a b o p e f z status h)
+    subst (λ q. Ends q a b o p e f z status) (sym is)
+    (command_ends (Some (audit log)) a b o p e f z status h (λ u. u.0.why)
+    (λ m. record {
+      untouched = record { numbers = m.0.numbers; out = m.0.out };
+      said = says_no_memory (audit log) e f m.1;
+    }))

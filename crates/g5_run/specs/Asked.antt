@@ -6,11 +6,11 @@ use Rattle.program_model.specs.Given.{Text}
 
 abbrev pub is_built : Command → Bool
 is_built (run names config) = true
-is_built (debug names config) = false
+is_built (debug names config) = true
 is_built (generate number turns) = true
 is_built (migrate old new) = true
 is_built (assemble source deck) = false
-is_built (disassemble deck at count) = false
+is_built (disassemble deck at count) = true
 is_built (link out decks) = false
 is_built (save turns names file config) = false
 is_built (resume names) = false

@@ -1,5 +1,5 @@
 -- How a command ends that makes one file of another. Source: choice of this project.
-use Rattle.std.specs.Prelude.{◌≡◌, ◌⊎◌}
+use Rattle.std.specs.Prelude.{◌≡◌}
 use Rattle.g5_outside.specs.Views.{ShelfView, SinkView}
 use Rattle.log_commands.specs.Migrates.{FailsToMigrate, Migrates}
 use Rattle.program_model.specs.Commands.{migrate}

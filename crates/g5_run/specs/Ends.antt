@@ -7,7 +7,7 @@ use Rattle.g5_words.specs.Ranges.{IsInLimits}
 use Rattle.g5_writing.specs.Starts.{OnlyNames}
 use Rattle.machine_runs.specs.Whole.{pieces_by}
 use Rattle.program_model.specs.Accepted.{Job}
-use Rattle.program_model.specs.Commands.{Command, JobNames, audit, generate, migrate, run}
+use Rattle.program_model.specs.Commands.{Command, JobNames, audit, debug, disassemble, generate, migrate, run}
 use Rattle.program_model.specs.Inputs.{input_name}
 use Rattle.program_model.specs.Statuses.{line_of}
 use Rattle.program_model.specs.declared.status.Status.{Status}
@@ -23,10 +23,12 @@ use Rattle.silicon.specs.Tape.{tells as tells_tape}
 use Rattle.machine_runs.specs.Jobs.{LeavesSilicon, job_hands}
 use Rattle.status_lines.specs.Says.{Says}
 use Rattle.g5_run.specs.Accepting.{IsJob, IsRefused}
+use Rattle.g5_run.specs.Conversing.{DebugEnds}
 use Rattle.g5_run.specs.Converts.{Converts}
 use Rattle.g5_run.specs.Generates.{Generates}
 use Rattle.g5_run.specs.Judges.{AuditEnds}
-use Rattle.g5_run.specs.Leaving.{SiliconAfter, status_by}
+use Rattle.g5_run.specs.Leaving.{Beside, SiliconAfter, status_by}
+use Rattle.g5_run.specs.Shows.{DisEnds}
 use Rattle.g5_run.specs.Holding.{Holds, HasOutputs, Untouched}
 use Rattle.machine_runs.specs.RunTells.{RunTells, IsSound, state_after, turns}
 
@@ -111,19 +113,23 @@ pub record SaysAlone (text : List ℕ) (a b : ShelfView) (o p e f : SinkView) : 
 
 -- how a command ends that is built
 abbrev pub CommandEnds : Option Command → ShelfView → ShelfView → SinkView → SinkView → SinkView
-    → SinkView → SiliconAfter → Status → Type 0
+    → SinkView → Beside → Status → Type 0
 CommandEnds (Some (run names c)) a b o p e f z status =
-    IsInLimits c × JobEnds names c a b o p e f z status
+    IsInLimits c × JobEnds names c a b o p e f z.silicon status
+CommandEnds (Some (debug names c)) a b o p e f z status =
+    IsInLimits c × DebugEnds names c a b o p e f z status
 CommandEnds (Some (generate number turns)) a b o p e f z status =
-    Generates number turns a b o p e f z status
+    Generates number turns a b o p e f z.silicon status
 CommandEnds (Some (migrate old new)) a b o p e f z status = Converts old new a b o p e f status
+CommandEnds (Some (disassemble deck at count)) a b o p e f z status =
+    DisEnds deck at count a b o p e f status
 CommandEnds (Some (audit log)) a b o p e f z status = AuditEnds log a b o p e f status
 CommandEnds (Some other) a b o p e f z status = ⊥
 CommandEnds None a b o p e f z status = ⊥
 
 -- memory may be wanted before the words are read
 abbrev pub Ends : Option Command → ShelfView → ShelfView → SinkView → SinkView → SinkView
-    → SinkView → SiliconAfter → Status → Type 0
+    → SinkView → Beside → Status → Type 0
 Ends asked a b o p e f z Usage = (asked ≡ None) × SaysAlone (codes "usage\n") a b o p e f
 Ends asked a b o p e f z NoMemory = SaysAlone (codes "no memory\n") a b o p e f
 Ends asked a b o p e f z status = CommandEnds asked a b o p e f z status

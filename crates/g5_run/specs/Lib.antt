@@ -5,6 +5,8 @@ pub mod Leaving
 pub mod Generates
 pub mod Converts
 pub mod Judges
+pub mod Conversing
+pub mod Shows
 pub mod Ends
 pub mod Complete
 pub mod Headline

@@ -1,10 +1,12 @@
 //! The top call: all that the program does for its words, over any files, streams and silicon.
 #![tactic(auto)]
 
+mod decks;
 mod generated;
 mod job;
 mod logs;
 mod ready;
+mod session;
 mod statuses;
 #[cfg(test)]
 mod tests;

@@ -2,6 +2,7 @@
 ghost use Rattle.std.specs.Prelude.{◌≡◌, [], IfOk};
 ghost use Rattle.g5_outside.specs.MemoryShelves.{shelf_view};
 
+mod decks;
 mod faults;
 mod generated;
 mod groups;
@@ -10,9 +11,10 @@ mod recovery;
 mod refusals;
 mod rows;
 mod runs;
+mod sessions;
 
 use crate::{Status, g5_top};
-use g5_outside::{MemoryShelf, MemorySink, NamedFile};
+use g5_outside::{MemoryShelf, MemorySink, MemorySource, NamedFile};
 use silicon::ScriptSilicon;
 use std::alloc::Global;
 use std::test::Fail;
@@ -77,7 +79,8 @@ fn file(alloc: Global, name: &str, bytes: &[u8]) -> Result<NamedFile, Fail> {
     })
 }
 
-fn shelf_of(alloc: Global, given: &Given<'_>) -> Result<MemoryShelf, Fail>
+// A shelf whose files to be created have so much room each.
+fn shelf_of(alloc: Global, given: &Given<'_>, room: usize) -> Result<MemoryShelf, Fail>
     ensures { IfOk result (λ s. (shelf_view s).numbers ≡ []) }
 {
     let mut files = Vec::new(alloc);
@@ -85,7 +88,8 @@ fn shelf_of(alloc: Global, given: &Given<'_>) -> Result<MemoryShelf, Fail>
     files.push(file(alloc, "C", given.console)?)?;
     files.push(file(alloc, "S", given.schedule)?)?;
     files.push(file(alloc, "F", given.script)?)?;
-    Ok(MemoryShelf::new(alloc, files, Vec::from_slice(alloc, given.failing)?, 1000)?)
+    let failing = Vec::from_slice(alloc, given.failing)?;
+    Ok(MemoryShelf::new(alloc, files, failing, room)?)
 }
 
 // How a run ended, and what it left.
@@ -99,12 +103,33 @@ struct Left {
 
 // The top call, with so much room on `err`.
 fn run(alloc: Global, texts: &[&str], given: &Given<'_>, room: usize) -> Result<Left, Fail> {
+    let keys = MemorySource::new(Vec::new(alloc), Vec::new(alloc));
+    run_with_keys(alloc, texts, given, keys, room)
+}
+
+// The top call over lines of a session.
+fn run_with_keys(
+    alloc: Global,
+    texts: &[&str],
+    given: &Given<'_>,
+    source: MemorySource,
+    room: usize,
+) -> Result<Left, Fail> {
     let words = words_of(alloc, texts)?;
-    let mut shelf = shelf_of(alloc, given)?;
+    let mut shelf = shelf_of(alloc, given, 4000)?;
+    let mut keys = source;
     let mut out = MemorySink::new(alloc, Vec::new(alloc), 400)?;
     let mut err = MemorySink::new(alloc, Vec::new(alloc), room)?;
     let mut silicon = ScriptSilicon::new();
-    let status = g5_top(alloc, &words, &mut shelf, &mut out, &mut err, &mut silicon);
+    let status = g5_top(
+        alloc,
+        &words,
+        &mut shelf,
+        &mut keys,
+        &mut out,
+        &mut err,
+        &mut silicon,
+    );
     Ok(Left {
         status,
         shelf,

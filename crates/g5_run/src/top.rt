@@ -3,24 +3,26 @@ ghost use Rattle.std.specs.Prelude.{◌≡◌, ◌≢◌, ◌⊎◌, [], IfSome,
 ghost use Rattle.g5_words.specs.Asked.{asked_by, job_names};
 ghost use Rattle.g5_words.specs.Ranges.{IsInLimits, IsSound};
 ghost use Rattle.program_model.specs.Accepted.{Job};
-ghost use Rattle.program_model.specs.Commands.{JobNames as NamesAsked, run};
+ghost use Rattle.program_model.specs.Commands.{Command as CommandAsked, JobNames as NamesAsked, run};
 ghost use Rattle.run_model.specs.Premise.{Within};
 ghost use Rattle.silicon.specs.Chip.{Fresh};
 ghost use Rattle.g5_run.specs.Asked.{asked, if_built};
 ghost use Rattle.g5_run.specs.Built.{IsSoundly, built_as};
-ghost use Rattle.g5_run.specs.Complete.{ComesBeforeOutput, IsAccepted, IsMade, NothingFailed};
+ghost use Rattle.g5_run.specs.Complete.{ComesBeforeOutput, IsAccepted, IsAcceptedBy, IsMade, IsWhole, NoLineFailed, NothingFailed};
 ghost use Rattle.g5_run.specs.Ends.{Ends, JobEnds};
-ghost use Rattle.g5_run.specs.Leaving.{silicon_after};
+ghost use Rattle.g5_run.specs.Leaving.{KeepsKeys, beside, silicon_after};
 ghost use Rattle.g5_run.specs.Headline.{Headline, SameWithoutFaults};
 ghost use Rattle.g5_run.specs.Holding.{Untouched};
 ghost use Rattle.g5_run.specs.LawfulLogs.{HasLawfulLog};
 
+use crate::decks::disassemble_and_say;
 use crate::generated::generate_and_run;
 use crate::job::{Ending, run_job};
 use crate::logs::{audit_and_say, migrate_and_say};
+use crate::session::converse_and_say;
 use crate::statuses::status_of;
-use g5_outside::{Shelf, Sink};
-use g5_words::{Command, JobNames, WordsRefused, read_command};
+use g5_outside::{Shelf, Sink, Source};
+use g5_words::{Command, JobNames, SessionNames, WordsRefused, read_command};
 use program_model::status::Status;
 use run_model::logs::Config;
 use silicon::Silicon;
@@ -65,8 +67,10 @@ fn run_command<F: Shelf, O: Sink, E: Sink, Z: Silicon>(
 #[derive(Clone, Copy)]
 enum Built<'a> {
     Run(JobNames<'a>, Config),
+    Debug(SessionNames<'a>, Config),
     Gen(u32, u32),
     Migrate(&'a str, &'a str),
+    Dis(&'a str, u32, u32),
     Audit(&'a str),
 }
 
@@ -77,11 +81,15 @@ fn built_of<'a>(command: &Command<'a>) -> Option<Built<'a>>
 {
     match command {
         Command::Run { job, config } => Some(Built::Run(*job, *config)),
-        Command::Debug { .. } => None,
+        Command::Debug { session, config } => Some(Built::Debug(*session, *config)),
         Command::Gen { number, turns } => Some(Built::Gen(*number, *turns)),
         Command::Migrate { old, new } => Some(Built::Migrate(old, new)),
         Command::Asm { .. } => None,
-        Command::Dis { .. } => None,
+        Command::Dis {
+            deck,
+            address,
+            count,
+        } => Some(Built::Dis(deck, *address, *count)),
         Command::Link { .. } => None,
         Command::Save { .. } => None,
         Command::Resume(_) => None,
@@ -90,19 +98,24 @@ fn built_of<'a>(command: &Command<'a>) -> Option<Built<'a>>
 }
 
 // Does what the words say, and says how it ended.
-fn obey<F: Shelf, O: Sink, E: Sink, Z: Silicon>(
+#[tactic(auto, using(crate::proofs::KeysKept::same_keys))]
+fn obey<F: Shelf, I: Source, O: Sink, E: Sink, Z: Silicon>(
     alloc: Global,
     words: &[String],
     shelf: &mut F,
+    keys: &mut I,
     out: &mut O,
     err: &mut E,
     silicon: &mut Z,
 ) -> Status
     requires shelf { (F.seen shelf.old).numbers ≡ [] }
     requires silicon { Fresh (Z.seen silicon.old) }
-    ensures { Ends (asked (map string_bytes words.now)) (F.seen shelf.old) (F.seen shelf.new)
+    ensures ends { Ends (asked (map string_bytes words.now)) (F.seen shelf.old) (F.seen shelf.new)
         (O.seen out.old) (O.seen out.new) (E.seen err.old) (E.seen err.new)
-        (silicon_after (Z.seen silicon.new) (Z.tape silicon.old) (Z.tape silicon.new)) result }
+        (beside (silicon_after (Z.seen silicon.new) (Z.tape silicon.old) (Z.tape silicon.new))
+        (I.seen keys.old) (I.seen keys.new)) result }
+    ensures keys { KeepsKeys (asked (map string_bytes words.now)) (I.seen keys.old)
+        (I.seen keys.new) }
 {
     let command = match read_command(alloc, words) {
         Ok(command) => command,
@@ -119,10 +132,16 @@ fn obey<F: Shelf, O: Sink, E: Sink, Z: Silicon>(
         Some(Built::Run(names, config)) => {
             run_command(alloc, &names, config, shelf, out, err, silicon)
         }
+        Some(Built::Debug(names, config)) => {
+            converse_and_say(alloc, &names, config, shelf, keys, out, err, silicon)
+        }
         Some(Built::Gen(number, turns)) => {
             generate_and_run(alloc, number, turns, out, err, silicon)
         }
         Some(Built::Migrate(old, new)) => migrate_and_say(alloc, old, new, shelf, err),
+        Some(Built::Dis(deck, address, count)) => {
+            disassemble_and_say(alloc, deck, address, count, shelf, out, err)
+        }
         Some(Built::Audit(log)) => audit_and_say(alloc, log, shelf, out, err),
         None => {
             say(err, b"usage\n");
@@ -132,12 +151,13 @@ fn obey<F: Shelf, O: Sink, E: Sink, Z: Silicon>(
 }
 
 /// Does what the words say, which are those after the program's name, and says on `err` how it
-/// ended. What `err` answers changes nothing else. The shelf has created no file before, and the
-/// silicon is fresh.
-pub fn g5_top<F: Shelf, O: Sink, E: Sink, Z: Silicon>(
+/// ended. The lines of a session come from `keys`. What `err` answers changes nothing else. The shelf
+/// has created no file before, and the silicon is fresh.
+pub fn g5_top<F: Shelf, I: Source, O: Sink, E: Sink, Z: Silicon>(
     alloc: Global,
     words: &[String],
     shelf: &mut F,
+    keys: &mut I,
     out: &mut O,
     err: &mut E,
     silicon: &mut Z,
@@ -146,14 +166,17 @@ pub fn g5_top<F: Shelf, O: Sink, E: Sink, Z: Silicon>(
     requires silicon { Fresh (Z.seen silicon.old) }
     ensures ends { Ends (asked (map string_bytes words.now)) (F.seen shelf.old) (F.seen shelf.new)
         (O.seen out.old) (O.seen out.new) (E.seen err.old) (E.seen err.new)
-        (silicon_after (Z.seen silicon.new) (Z.tape silicon.old) (Z.tape silicon.new)) result }
+        (beside (silicon_after (Z.seen silicon.new) (Z.tape silicon.old) (Z.tape silicon.new))
+        (I.seen keys.old) (I.seen keys.new)) result }
     ensures untouched { ComesBeforeOutput result
         → Untouched (F.seen shelf.old) (F.seen shelf.new) (O.seen out.old) (O.seen out.new) }
-    ensures complete { (names : NamesAsked) (c : Config) (j : Job)
-        → asked (map string_bytes words.now) ≡ Some (run names c)
-        → IsAccepted names c j (F.seen shelf.old)
+    ensures keys { KeepsKeys (asked (map string_bytes words.now)) (I.seen keys.old)
+        (I.seen keys.new) }
+    ensures complete { (d : CommandAsked) → asked (map string_bytes words.now) ≡ Some d
+        → IsAcceptedBy d (F.seen shelf.old) (I.seen keys.old)
         → NothingFailed (F.seen shelf.old) (F.seen shelf.new) (O.seen out.old) (O.seen out.new)
-        → IsMade result ⊎ (result ≡ Status.NoMemory) }
+        → NoLineFailed d (I.seen keys.old) (I.seen keys.new)
+        → IsWhole d result ⊎ (result ≡ Status.NoMemory) }
     ensures headline { (names : NamesAsked) (c : Config) (j : Job)
         → asked (map string_bytes words.now) ≡ Some (run names c)
         → IsAccepted names c j (F.seen shelf.old) → Within j.strikes → IsMade result
@@ -166,5 +189,5 @@ pub fn g5_top<F: Shelf, O: Sink, E: Sink, Z: Silicon>(
         → IsAccepted names c j (F.seen shelf.old) → Within j.strikes → result ≡ Status.Done
         → SameWithoutFaults names c j (F.seen shelf.new) (O.seen out.old) (O.seen out.new) }
 {
-    obey(alloc, words, shelf, out, err, silicon)
+    obey(alloc, words, shelf, keys, out, err, silicon)
 }

@@ -1,5 +1,6 @@
 pub mod Faults
 pub mod Adding
+pub mod Parts
 pub mod Putting
 pub mod Progress
 pub mod LineSteps

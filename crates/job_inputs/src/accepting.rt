@@ -33,15 +33,19 @@ pub struct Accepted {
     pub script: Script,
 }
 
-// The image of a deck in a storage, and its entry.
+/// The image of a deck in a storage, and its entry.
 #[derive(Drop)]
-struct LoadedDeck {
-    storage: AbsStorage,
-    entry: Loaded,
+pub struct LoadedDeck {
+    pub storage: AbsStorage,
+    pub entry: Loaded,
 }
 
-// Loads a deck into a new storage of so many bytes.
-fn loaded(alloc: Global, deck: &[u8], size: u32) -> Result<LoadedDeck, Status>
+/// Loads a deck into a new storage of so many bytes.
+///
+/// # Errors
+///
+/// `DeckRefused` with the deck's first violation, and `NoMemory`.
+pub fn load_deck(alloc: Global, deck: &[u8], size: u32) -> Result<LoadedDeck, Status>
     requires pages { size % 4096 ≡ 0 }
     requires most { size ≤ 4096 * 4096 }
     requires deck { length deck.now < 2 ^ 32 }
@@ -102,7 +106,7 @@ pub fn accept(alloc: Global, config: Config, inputs: InputBytes) -> Result<Accep
         (s ≡ status.NoMemory) ⊎ (job config (job_bytes inputs) ≡ Err s)) }
     ensures kind { IfErr result IsInputRefusal }
 {
-    let deck = loaded(alloc, &inputs.deck, 4096 * u32::from(config.pages))?;
+    let deck = load_deck(alloc, &inputs.deck, 4096 * u32::from(config.pages))?;
     let schedule = schedule_of(alloc, &inputs.schedule, config.cpus)?;
     let script = script_of(alloc, &inputs.script)?;
     Ok(Accepted {

@@ -6,5 +6,5 @@ mod reading;
 #[cfg(test)]
 mod tests;
 
-pub use accepting::{Accepted, accept};
+pub use accepting::{Accepted, LoadedDeck, accept, load_deck};
 pub use reading::{InputBytes, read_inputs};

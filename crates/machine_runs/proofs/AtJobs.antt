@@ -62,7 +62,7 @@ some_held [] i lt = absurd (omega (arith, lt))
 some_held (h ∷ hs) zero lt = (h, refl)
 some_held (h ∷ hs) (suc i) lt = some_held hs i (omega (arith, lt))
 
-leaves : (c : Config) (e : TwinMachine) (z : Chip) (x : Model) → e.machine.config ≡ c
+pub leaves : (c : Config) (e : TwinMachine) (z : Chip) (x : Model) → e.machine.config ≡ c
     → StandsFor e.machine z x → LeavesSilicon c x z
 leaves c e z x same st = record {
   begun = st.begun;

@@ -12,8 +12,8 @@ use Rattle.esa_model.specs.Machine.{psw_bytes, identification_bytes, swap_stored
 use Rattle.esa_model.specs.Places.{old_at, identification_at}
 use Rattle.esa_model.specs.Packet.{Fields}
 use Rattle.esa_model.specs.PacketCodes.{interruption_of}
-use Rattle.esa_model.specs.Apply.{put_all, fits, piece, first_bytes, second_bytes, applied_storage}
-use Rattle.result_packet.specs.Pieces.{Piece, stored_all, added, with_swap, stores_of, Holdable}
+use Rattle.esa_model.specs.Apply.{Piece, put_all, stored_all, fits, piece, first_bytes, second_bytes, applied_storage}
+use Rattle.result_packet.specs.Pieces.{added, with_swap, stores_of, Holdable}
 use Rattle.result_packet.proofs.Log.{set_outside}
 use Rattle.result_packet.proofs.RunsStored.{psw_short, identification_short}
 

@@ -9,17 +9,7 @@ use Rattle.esa_model.specs.Machine.{psw_bytes, identification_bytes}
 use Rattle.esa_model.specs.Places.{old_at, identification_at}
 use Rattle.esa_model.specs.Packet.{Fields}
 use Rattle.esa_model.specs.PacketCodes.{interruption_of}
-use Rattle.esa_model.specs.Apply.{put_all, first_bytes, second_bytes}
-
--- bytes to be stored from an absolute address on
-pub record Piece : Type 0 where
-  pub at : ℕ
-  pub bytes : List ℕ
-
--- the storage after the pieces are stored in their order
-abbrev pub stored_all : List Piece → List ℕ → List ℕ
-stored_all [] s = s
-stored_all (p ∷ ps) s = stored_all ps (put_all p.at p.bytes s)
+use Rattle.esa_model.specs.Apply.{Piece, first_bytes, second_bytes}
 
 -- a piece more, for a storage of so many bytes
 abbrev pub added : ℕ → ℕ → List ℕ → List Piece → List Piece

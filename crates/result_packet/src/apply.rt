@@ -1,10 +1,10 @@
 // Applying a packet to a storage: all but the storing, and then the pieces.
 ghost use Rattle.std.specs.Prelude.{◌≡◌, ◌≤◌, ◌+◌, ◌^◌, length};
 ghost use Rattle.esa_model.specs.Packet.{read};
-ghost use Rattle.esa_model.specs.Apply.{put_all, applied_storage, console_out};
+ghost use Rattle.esa_model.specs.Apply.{put_all, stored_all, applied_storage, console_out};
 ghost use Rattle.esa_model.specs.Changes.{changed_bytes, stretches};
 ghost use Rattle.result_packet.specs.Applied.{keys_left, bus_left, console_left};
-ghost use Rattle.result_packet.specs.Pieces.{stored_all, Holdable};
+ghost use Rattle.result_packet.specs.Pieces.{Holdable};
 
 use crate::{Packet, Piece, Side, Written};
 use abs_storage::AbsStorage;

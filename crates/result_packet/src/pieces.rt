@@ -20,7 +20,7 @@ pub struct Piece {
 }
 
 impl Model for Piece {
-    ghost use Rattle.result_packet.specs.Pieces.{Piece as Stored};
+    ghost use Rattle.esa_model.specs.Apply.{Piece as Stored};
 
     ghost Value = { Stored };
 

@@ -15,8 +15,9 @@ use crate::writing::{head_of, tail, write};
 use crate::{Entry, MigrateRefusal, What};
 use std::alloc::Global;
 
-// The next line and what follows it.
-fn next_line(text: &[u8]) -> Option<(&[u8], &[u8])>
+/// The first line of a text without its line feed, and what follows it. Where no line feed ends it,
+/// nothing follows. None exactly where the text has no byte.
+pub fn next_line(text: &[u8]) -> Option<(&[u8], &[u8])>
     ensures some { IfSome result (λ p. lines text.now ≡ p.0.now ∷ lines p.1.now) }
     ensures shorter { IfSome result (λ p. length p.1.now < length text.now) }
     ensures none { IfNone result (lines text.now ≡ []) }

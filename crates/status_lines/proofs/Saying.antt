@@ -1,11 +1,11 @@
 -- A text that is written by several calls.
 use Rattle.std.proofs.Common.{◌≡◌, ℕ, ◌+◌, List, ◌++◌, take, length, min, ◌∙◌, ap, arith, Result, Ok, Err, inl, inr, subst}
 use Rattle.std.proofs.Math.Seq.{take-append-add}
-use Rattle.std.proofs.lemmas.List.{take-append-le, take_min}
 use Rattle.g5_outside.specs.Views.{SinkView}
 use Rattle.g5_writing.specs.Outputs.{SinkGrew, AddsToSink}
 use Rattle.g5_writing.proofs.Faults.{rose_before}
 use Rattle.g5_writing.proofs.Adding.{sink_grew_more}
+use Rattle.g5_writing.proofs.Parts.{take_front}
 use Rattle.status_lines.specs.Says.{Says}
 
 -- whatever the answer, the text was said
@@ -31,9 +31,6 @@ sink_then xs ys a b c x (Err e) g h = record {
   all = tt;
   cause = rose_before a.faults b.faults c.faults g.grew.faults h.cause;
 }
-
-pub take_front : (xs ys : List ℕ) (k : ℕ) → take (min k (length xs)) (xs ++ ys) ≡ take k xs
-take_front xs ys k = take-append-le (min k (length xs)) xs ys (omega arith) ∙ take_min k xs
 
 -- the first was cut, and the second not begun
 pub sink_stop : {T U E : Type 0} (xs ys : List ℕ) (a b : SinkView) (e d : E) →

@@ -1,19 +1,19 @@
 -- Storing the oldest piece leaves what the storage shows through the pieces.
-use Rattle.std.proofs.Common.{◌≡◌, ◌≢◌, ℕ, zero, suc, ◌+◌, ◌-◌, ◌<◌, ◌≤◌, Bool, true, false, List, [], ◌∷◌, length, refl, sym, ap, ◌∙◌, subst, inl, inr, arith}
+use Rattle.std.proofs.Common.{◌≡◌, ◌≢◌, ℕ, zero, suc, ◌+◌, ◌-◌, ◌<◌, ◌≤◌, true, false, List, [], ◌∷◌, length, refl, sym, ap, ◌∙◌, subst, inl, inr, arith}
 use Rattle.std.specs.Prelude.{nat_le, slice_set, slice_get, drop, Option, Some, None, IfSome}
 use Rattle.std.specs.Option.{option_or}
 use Rattle.std.proofs.lemmas.Bool.{cases_lt}
 use Rattle.std.proofs.lemmas.Option.{slice_get_past}
-use Rattle.esa_model.specs.Apply.{put_all}
-use Rattle.store_buffer.specs.Waiting.{Piece, byte_of, newest, shown, oldest_of, oldest_span, stored_in}
+use Rattle.esa_model.specs.Apply.{Piece, put_all}
+use Rattle.store_buffer.specs.Waiting.{byte_of, newest, shown, oldest_of, oldest_span, stored_in}
 use Rattle.store_buffer.proofs.Newest.{or_assoc}
 
-set_length : (s : List ℕ) (i x : ℕ) → length (slice_set s i x) ≡ length s
+pub set_length : (s : List ℕ) (i x : ℕ) → length (slice_set s i x) ≡ length s
 set_length [] i x = refl
 set_length (y ∷ s) zero x = refl
 set_length (y ∷ s) (suc i) x = ap (λ (k : ℕ). suc k) (set_length s i x)
 
-put_length : (a : ℕ) (xs s : List ℕ) → length (put_all a xs s) ≡ length s
+pub put_length : (a : ℕ) (xs s : List ℕ) → length (put_all a xs s) ≡ length s
 put_length a [] s = refl
 put_length a (x ∷ xs) s = put_length (a + 1) xs (slice_set s a x) ∙ set_length s a x
 
@@ -22,7 +22,7 @@ get_same [] i x h = absurd (omega (arith, h))
 get_same (y ∷ s) zero x h = refl
 get_same (y ∷ s) (suc i) x h = get_same s i x (omega (arith, h))
 
-get_other : (s : List ℕ) (i j x : ℕ) → i ≢ j → slice_get (slice_set s i x) j ≡ slice_get s j
+pub get_other : (s : List ℕ) (i j x : ℕ) → i ≢ j → slice_get (slice_set s i x) j ≡ slice_get s j
 get_other [] i j x h = refl
 get_other (y ∷ s) zero zero x h = absurd (h refl)
 get_other (y ∷ s) zero (suc j) x h = refl
@@ -30,7 +30,7 @@ get_other (y ∷ s) (suc i) zero x h = refl
 get_other (y ∷ s) (suc i) (suc j) x h = get_other s i j x (λ e. h (ap (λ (k : ℕ). suc k) e))
 
 -- a byte inside the storage after a piece was stored
-put_get : (at a : ℕ) (xs s : List ℕ) → a < length s → slice_get (put_all at xs s) a ≡ option_or (byte_of (record { at = at; bytes = xs }) a) (slice_get s a)
+pub put_get : (at a : ℕ) (xs s : List ℕ) → a < length s → slice_get (put_all at xs s) a ≡ option_or (byte_of (record { at = at; bytes = xs }) a) (slice_get s a)
 put_get at a [] s h =
     elim (cases_lt a at) [
       | inl low ↦ let e : nat_le at a ≡ false = grind (arith, low) in rw e refl

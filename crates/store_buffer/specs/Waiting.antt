@@ -1,14 +1,9 @@
 -- Stores that wait in a buffer, and what they show.
 -- Source: choice of this project.
-use Rattle.std.specs.Prelude.{ℕ, ◌-◌, nat_le, if◌then◌else◌, List, [], ◌∷◌, length, slice_get, Option, Some, None, option_map}
+use Rattle.std.specs.Prelude.{ℕ, ◌+◌, ◌-◌, nat_le, nat_lt, ◌&&◌, ◌||◌, Bool, false, if◌then◌else◌, List, [], ◌∷◌, length, slice_get, Option, Some, None, option_map}
 use Rattle.std.specs.Option.{option_or}
-use Rattle.esa_model.specs.Apply.{put_all}
+use Rattle.esa_model.specs.Apply.{Piece, put_all}
 use Rattle.store_buffer.specs.declared.span.Span.{Span}
-
--- bytes to be stored from an absolute address on
-pub record Piece : Type 0 where
-  pub at : ℕ
-  pub bytes : List ℕ
 
 -- what a buffer has, each oldest first; what is committed is older than what is held
 pub record Waiting : Type 0 where
@@ -45,3 +40,18 @@ oldest_span ps = option_map span_of (oldest_of ps)
 abbrev pub stored_in : Option Piece → List ℕ → List ℕ
 stored_in None storage = storage
 stored_in (Some p) storage = put_all p.at p.bytes storage
+
+-- ---- bytes in common
+
+-- whether two pieces, each of one byte or more, have an address in common
+abbrev pub meets : Piece → Piece → Bool
+meets p q = nat_lt p.at (q.at + length q.bytes) && nat_lt q.at (p.at + length p.bytes)
+
+abbrev pub meets_any : Piece → List Piece → Bool
+meets_any p [] = false
+meets_any p (q ∷ qs) = meets p q || meets_any p qs
+
+-- whether one of these pieces has an address in common with one of those
+abbrev pub clash : List Piece → List Piece → Bool
+clash [] qs = false
+clash (p ∷ ps) qs = meets_any p qs || clash ps qs

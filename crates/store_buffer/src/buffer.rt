@@ -1,6 +1,7 @@
 // The eight entries of a buffer.
 ghost use Rattle.std.specs.Prelude.{◌≡◌, ◌≤◌, ◌<◌, ◌+◌, ◌^◌, ◌↔◌, ℕ, [], ◌∷◌, ◌++◌, drop, length, IfSome, IsTrue};
 ghost use Rattle.store_buffer.specs.Waiting.{newest, oldest_of, oldest_span, shown, stored_in};
+ghost use Rattle.store_buffer.specs.Waiting.{meets_any, clash};
 
 use crate::Span;
 use crate::entry::Entry;
@@ -42,6 +43,30 @@ fn newest_byte(entries: &[Entry], at: u32) -> Option<u8>
         found = entry.byte(at).or(found);
     }
     found
+}
+
+// Whether an entry has an address in common with one of the others.
+fn meets_one(entry: &Entry, others: &[Entry]) -> bool
+    ensures { result ≡ meets_any entry.now others.now }
+{
+    for other in others {
+        if entry.meets(other) {
+            return true;
+        }
+    }
+    false
+}
+
+// Whether one of the entries has an address in common with one of the others.
+fn do_clash(entries: &[Entry], others: &[Entry]) -> bool
+    ensures { result ≡ clash entries.now others.now }
+{
+    for entry in entries {
+        if meets_one(entry, others) {
+            return true;
+        }
+    }
+    false
 }
 
 impl Buffer {
@@ -128,6 +153,16 @@ impl Buffer {
         ensures { result ≡ newest self.now.committed at }
     {
         newest_byte(&self.entries.as_slice()[..self.committed], at)
+    }
+
+    /// Whether a committed entry has an address in common with one that the other buffer holds.
+    pub fn meets(&self, other: &Buffer) -> bool
+        ensures { result ≡ clash self.now.committed other.now.held }
+    {
+        do_clash(
+            &self.entries.as_slice()[..self.committed],
+            &other.entries.as_slice()[other.committed..],
+        )
     }
 
     /// Where the oldest committed entry lies, `None` exactly where there is none.

@@ -1,7 +1,7 @@
 // One entry of a buffer: a piece.
 ghost use Rattle.std.specs.Prelude.{◌≡◌, ◌≤◌, ◌+◌, ◌^◌, length};
 ghost use Rattle.esa_model.specs.Apply.{put_all};
-ghost use Rattle.store_buffer.specs.Waiting.{byte_of, span_of};
+ghost use Rattle.store_buffer.specs.Waiting.{byte_of, span_of, meets as have_common};
 
 use crate::Span;
 use abs_storage::AbsStorage;
@@ -17,7 +17,7 @@ pub struct Entry {
 
 impl Model for Entry {
     ghost use Rattle.std.specs.Prelude.{◌≤◌, ◌+◌, ◌^◌, length};
-    ghost use Rattle.store_buffer.specs.Waiting.{Piece};
+    ghost use Rattle.esa_model.specs.Apply.{Piece};
 
     ghost Value = { Piece };
 
@@ -73,6 +73,14 @@ impl Entry {
         ensures { storage.new ≡ put_all self.now.at self.now.bytes storage.old }
     {
         store_bytes(storage, self.at, self.bytes.as_slice());
+    }
+
+    /// Whether two entries have an address in common.
+    pub fn meets(&self, other: &Entry) -> bool
+        ensures { result ≡ have_common self.now other.now }
+    {
+        let (own, far) = (self.span(), other.span());
+        own.at < far.at + far.len as u32 && far.at < own.at + own.len as u32
     }
 
     /// Where the bytes lie.

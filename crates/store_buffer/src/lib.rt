@@ -3,9 +3,11 @@
 
 mod buffer;
 mod entry;
+mod holder;
 mod span;
 
 pub use buffer::Buffer;
+pub use holder::Holder;
 pub use span::Span;
 
 #[cfg(test)]

@@ -84,3 +84,25 @@ fn eight_entries(rt: HostRuntime) {
     assert_eq!(rt; buffer.snoop(0x3005), Some(5));
     assert_eq!(rt; buffer.snoop(0x3006), None);
 }
+
+// Two bytes at X'2000' are committed; the other buffer holds two bytes around them.
+#[test]
+fn bytes_in_common(rt: HostRuntime) {
+    for (at, want) in [
+        (0x1FFE, false),
+        (0x1FFF, true),
+        (0x2000, true),
+        (0x2001, true),
+        (0x2002, false),
+    ] {
+        let mut buffer = Buffer::new();
+        let mut other = Buffer::new();
+        buffer.hold(0x2000, &[1, 2]);
+        other.hold(at, &[3, 4]);
+        assert_eq!(rt; buffer.meets(&other), false, "not yet committed, at {at}");
+        buffer.release();
+        assert_eq!(rt; buffer.meets(&other), want, "at {at}");
+        other.release();
+        assert_eq!(rt; buffer.meets(&other), false, "no more held, at {at}");
+    }
+}

@@ -12,7 +12,7 @@ use run_model::logs::What;
 use std::alloc::Global;
 use std::test::Fail;
 
-const SECOND: CpuNo = CpuNo(1);
+pub(super) const SECOND: CpuNo = CpuNo(1);
 
 fn are_changed(changed: &[Changed], want: &[(u32, u8)]) -> bool {
     if changed.len() != want.len() {
@@ -27,7 +27,7 @@ fn are_changed(changed: &[Changed], want: &[(u32, u8)]) -> bool {
 }
 
 /// Whether a turn of a CPU changes these bytes and no others, and leaves this PSW.
-fn changes(p: &mut Plant, cpu: CpuNo, want: &[(u32, u8)], w0: u32, w1: u32) -> bool {
+pub(super) fn changes(p: &mut Plant, cpu: CpuNo, want: &[(u32, u8)], w0: u32, w1: u32) -> bool {
     match turn(p, cpu) {
         None => false,
         Some(made) => {
@@ -37,7 +37,7 @@ fn changes(p: &mut Plant, cpu: CpuNo, want: &[(u32, u8)], w0: u32, w1: u32) -> b
 }
 
 /// Whether a turn of a CPU comes to this.
-fn comes_to(p: &mut Plant, cpu: CpuNo, want: Outcome) -> bool {
+pub(super) fn comes_to(p: &mut Plant, cpu: CpuNo, want: Outcome) -> bool {
     match turn(p, cpu) {
         None => false,
         Some(made) => made.outcome == want,
@@ -56,7 +56,7 @@ fn second_commits(p: &mut Plant) -> bool {
 
 /// Programs of both CPUs. The restart PSW leads to the second; CPU 1 is restarted by LA 3,1;
 /// SIGP 0,3,6.
-fn programs(alloc: Global, first: &[u8], second: &[u8]) -> Result<AbsStorage, Fail> {
+pub(super) fn programs(alloc: Global, first: &[u8], second: &[u8]) -> Result<AbsStorage, Fail> {
     let mut storage = loaded(alloc, &[0x41, 0x30, 0x00, 0x01, 0xAE, 0x03, 0x00, 0x06])?;
     put(&mut storage, 0x1_0008, first);
     put(&mut storage, 0x1_1000, second);
@@ -68,7 +68,7 @@ fn programs(alloc: Global, first: &[u8], second: &[u8]) -> Result<AbsStorage, Fa
     Ok(storage)
 }
 
-fn register(p: &Plant, cpu: CpuNo, number: usize) -> Option<u32> {
+pub(super) fn register(p: &Plant, cpu: CpuNo, number: usize) -> Option<u32> {
     if cpu.0 >= p.machine.cpus() {
         return None;
     }

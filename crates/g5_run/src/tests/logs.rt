@@ -1,10 +1,12 @@
 // Logs, migrated and judged.
-use super::{Given, HEAD, run};
-use crate::Status;
-use g5_outside::FileNo;
+use super::{Given, HEAD, run, shelf_of, words_of};
+use crate::{Status, g5_top};
+use deck_gen::generate;
+use g5_outside::{FileNo, MemorySink, MemorySource};
 use program_model::inputs::Input;
 use program_model::refusals::AuditRefusal;
 use run_model::logs::MigrateRefusal;
+use silicon::ScriptSilicon;
 use std::test::Fail;
 
 // The log is file D.
@@ -120,5 +122,56 @@ fn logs_migrated_and_judged(rt: HostRuntime) -> Result<(), Fail> {
         assert_eq!(rt; left.out.taken(), case.out);
         assert_eq!(rt; left.err.taken(), case.err);
     }
+    Ok(())
+}
+
+// 'Generated, large': deck, schedule and script as files, run with 8 CPUs and 1 spare, and its log judged.
+#[test]
+fn the_log_of_a_generated_run_is_lawful(rt: HostRuntime) -> Result<(), Fail> {
+    let alloc = rt.alloc();
+    let texts = generate(alloc, 7, 100_000)?;
+    let given = Given {
+        deck: &texts.deck,
+        console: b"",
+        schedule: &texts.schedule,
+        script: &texts.script,
+        failing: &[],
+    };
+    let words = words_of(
+        alloc,
+        &[
+            "run",
+            "--cpus=8",
+            "--spares=1",
+            "D",
+            "C",
+            "S",
+            "F",
+            "L",
+            "T",
+        ],
+    )?;
+    let mut shelf = shelf_of(alloc, &given, 4_000_000)?;
+    let mut keys = MemorySource::new(Vec::new(alloc), Vec::new(alloc));
+    let mut out = MemorySink::new(alloc, Vec::new(alloc), 400)?;
+    let mut err = MemorySink::new(alloc, Vec::new(alloc), 400)?;
+    let mut silicon = ScriptSilicon::new();
+    let status = g5_top(
+        alloc,
+        &words,
+        &mut shelf,
+        &mut keys,
+        &mut out,
+        &mut err,
+        &mut silicon,
+    );
+    assert_eq!(rt; status, Status::Done);
+    let log = Given {
+        deck: shelf.text_of(FileNo(0)),
+        ..given
+    };
+    let left = run(alloc, AUDIT, &log, 400)?;
+    assert_eq!(rt; left.status, Status::Done);
+    assert_eq!(rt; left.out.taken(), b"yes\n".as_slice());
     Ok(())
 }

@@ -5,10 +5,9 @@ use std::test::Fail;
 
 #[test]
 fn words_and_files(rt: HostRuntime) -> Result<(), Fail> {
-    let cases: [(&[&str], &[u64], u8, &[u8]); 12] = [
+    let cases: [(&[&str], &[u64], u8, &[u8]); 11] = [
         (&[], &[], 2, b"usage\n"),
         (&["run", "D", "C"], &[], 2, b"usage\n"),
-        (&["dis", "D", "010000", "2"], &[], 2, b"usage\n"),
         (
             &["run", "--cpus=9", "D", "C", "S", "F", "L", "T"],
             &[],

@@ -7,6 +7,7 @@ use Rattle.run_model.specs.declared.logs.What.TheVariants as what
 use Rattle.std.proofs.Common.{◌∷◌, ◌++◌, []}
 use Rattle.run_model.specs.Cores.{entries_of}
 use Rattle.twin_units.specs.Units.{due_beside}
+use Rattle.core_states.proofs.Tries.{step_there}
 use Rattle.core_turns.specs.declared.held.Held.{Held}
 use Rattle.core_turns.specs.declared.held.Held.TheVariants.{Running, Recovering, Lost}
 use Rattle.core_turns.specs.declared.outcomes.Outcome.{Outcome}
@@ -64,14 +65,16 @@ returns-in-Committed-clause-gives g c = λ sure.
     let busy : is_idle (due_beside c.args.k.registers i c.args.side.now) ≡ false = cc in
     let keeps = c.in-Committed.ensures.keeps in
     let none = (c.in-Committed.ensures.gives sure.0 sure.1 busy).0 in
-    let law = c.in-Committed.ensures.steps sure.0 (sure.2.masks (same_if_none _ _ _ none)) in
+    let lent = c.lend_to.ensures.bytes in
+    let law = step_there c.args.k.registers i _ _ c.args.side.now p lent
+    (c.in-Committed.ensures.steps sure.0 (sure.2.masks (same_if_none _ _ _ none))) in
     let own = c.registers-in-Committed.ensures ∙ keeps.1 in
     gives_committed i c.args.k c.committed.result _ _ p c.args.memory.now.bytes
     c.carry_out-written.new.self.bytes c.args.side.now c.carry_out-written.new.side
     c.advance_clock.new.side busy law
     (carries_as i c.args.k.registers c.registers-in-Committed.result.now p
     c.args.memory.now.bytes c.attempt.new.view.bytes c.carry_out-written.new.self.bytes
-    c.args.side.now c.carry_out-written.new.side own c.attempt.ensures.view
+    c.args.side.now c.carry_out-written.new.side own (c.attempt.ensures.view ∙ lent)
     (record {
       storage = c.carry_out-written.ensures.storage;
       keys = c.carry_out-written.ensures.keys;
@@ -86,7 +89,7 @@ returns-in-Committed-clause-gives g c = λ sure.
       psw = ap (λ r. r.psw) c.carry_out-written.ensures.registers;
       changed = c.carry_out-written.ensures.changed
           ∙ ap (λ (s : List ℕ). changed_bytes s c.carry_out-written.new.self.bytes)
-          c.attempt.ensures.view;
+          (c.attempt.ensures.view ∙ lent);
       console = c.carry_out-written.ensures.written;
     })
 

@@ -17,6 +17,7 @@ loop-i-init c =
       long = omega arith;
       few = omega arith;
       items = let z = c.empty_lists-lists.ensures.none in omega (arith, z);
+      typed = c.empty_lists-lists.ensures.typed;
       widths = c.empty_lists-lists.ensures.widths;
     }
 
@@ -50,5 +51,6 @@ loop-i-preserved c =
       long = omega arith;
       few = l.invariant.few;
       items = let f = more.ensures.few in let g = l.invariant.items in omega (arith, f, g);
+      typed = more.ensures.typed;
       widths = more.ensures.widths;
     }

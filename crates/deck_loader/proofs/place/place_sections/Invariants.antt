@@ -5,8 +5,8 @@ use Rattle.deck_loader.proofs.place.place_sections.Given as goal
 
 abbrev pub invariant-loop-item : goal.invariant-loop-item
 invariant-loop-item l = record {
-  so : l.placed.items ++ place l.from l.texts l.rest ≡ place 65536 l.texts l.items;
-  low : l.from + 17179869184 * length l.rest ≤ 65536 + 17179869184 * length l.items;
+  so : l.placed.items ++ place l.from l.texts l.rest ≡ place l.origin l.texts l.items;
+  low : l.from + 17179869184 * length l.rest ≤ l.origin + 17179869184 * length l.items;
   each : All (λ (p : Placed). p.at < 2 ^ 63) l.placed.items;
 }
 

@@ -1,5 +1,5 @@
 use Rattle.std.proofs.Common.{◌≡◌, length, drop}
-use Rattle.result_packet.specs.Pieces.{stored_all}
+use Rattle.esa_model.specs.Apply.{stored_all}
 use Rattle.result_packet.specs.Pieces.{Holdable}
 use Rattle.result_packet.proofs.apply.store_all.Given as goal
 

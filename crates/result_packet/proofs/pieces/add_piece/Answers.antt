@@ -1,7 +1,7 @@
 use Rattle.std.proofs.Common.{◌≡◌, length, arith, subst, sym, List}
 use Rattle.std.proofs.lemmas.Grind.{common_steps}
 use Rattle.result_packet.specs.Pieces.{Holdable}
-use Rattle.result_packet.specs.Pieces.{Piece}
+use Rattle.esa_model.specs.Apply.{Piece}
 use Rattle.result_packet.proofs.PiecesStored.{holdable_more}
 use Rattle.result_packet.proofs.pieces.add_piece.Goals as goal
 

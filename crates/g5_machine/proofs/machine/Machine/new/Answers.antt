@@ -1,6 +1,6 @@
 -- What was woken and added is the start of the definitions.
 use Rattle.std.proofs.Common.{refl, ap}
-use Rattle.core_turns.specs.Shown.{Shown}
+use Rattle.seen_memory.specs.Seen.{Shown}
 use Rattle.g5_machine.proofs.Firsts.{by_mode_first, fits_first, placed_first, stands_first, there_first}
 use Rattle.g5_machine.proofs.machine.Machine.new.Goals as goal
 
@@ -23,7 +23,7 @@ returns-clause-stands g c =
     stands_first _ c.args.config (g.Z.Silicon.seen c.args.z.now)
     (g.Z.Silicon.seen c.wake_cores.new.z) c.args.entry.address c.args.storage
     c.args.console.items c.requires.config c.wake_cores.ensures.woken c.add_spares.ensures
-    (ap (λ (m : Shown). m.bytes) c.new-4.ensures)
+    (ap (λ (m : Shown). m.bytes) c.in_ok-memory.ensures)
     (rw (c.in_ok-keys.ensures, c.in_ok-bus.ensures, c.new-5.ensures, c.size.ensures.size) refl)
     c.zeros.ensures.counts c.requires.begun
 

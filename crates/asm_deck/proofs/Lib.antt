@@ -1,0 +1,14 @@
+pub mod CardSteps
+pub mod Constants
+pub mod Decoding
+pub mod Found
+pub mod Image
+pub mod Inside
+pub mod Items
+pub mod Lists
+pub mod Ordered
+pub mod Places
+pub mod Relocated
+pub mod Runs
+pub mod SectionText
+pub mod Used

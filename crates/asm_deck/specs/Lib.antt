@@ -1,0 +1,6 @@
+pub mod Accepted
+pub mod AssembledCards
+pub mod AssembledImage
+pub mod LoadedSections
+pub mod Worked
+pub mod Writable

@@ -1,0 +1,14 @@
+pub mod AddressWords
+pub mod Clean
+pub mod Entries
+pub mod Instructions
+pub mod Lies
+pub mod Loaded
+pub mod Names
+pub mod ReadFields
+pub mod ReadLines
+pub mod ReadNames
+pub mod Sizes
+pub mod Steps
+pub mod Walk
+pub mod WholeSource

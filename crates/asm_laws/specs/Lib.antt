@@ -1,0 +1,2 @@
+pub mod AcceptedSource
+pub mod LoadedProgram

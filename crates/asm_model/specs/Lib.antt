@@ -1,0 +1,10 @@
+pub mod Words
+pub mod Pieces
+pub mod Slots
+pub mod Statement
+pub mod Line
+pub mod Places
+pub mod Refused
+pub mod Section
+pub mod Program
+pub mod Worked

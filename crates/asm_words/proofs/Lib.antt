@@ -1,0 +1,4 @@
+pub mod Parting
+pub mod Pieces
+pub mod Words
+pub mod Forms

@@ -1,0 +1,4 @@
+pub mod CommandLines
+pub mod Conversing
+pub mod Holding
+pub mod Consequences

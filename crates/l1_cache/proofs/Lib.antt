@@ -1,0 +1,3 @@
+pub mod Places
+pub mod Copying
+pub mod Cohering

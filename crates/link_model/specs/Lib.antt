@@ -1,0 +1,4 @@
+pub mod Link
+pub mod Linked
+pub mod Loading
+pub mod Worked

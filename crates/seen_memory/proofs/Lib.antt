@@ -1,0 +1,6 @@
+pub mod Oldest
+pub mod Order
+pub mod Through
+pub mod Steps
+pub mod Groups
+pub mod Holding

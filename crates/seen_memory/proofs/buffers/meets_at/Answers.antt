@@ -1,0 +1,7 @@
+use Rattle.seen_memory.proofs.Groups.{now_read, held_read}
+use Rattle.seen_memory.proofs.buffers.meets_at.Goals as goal
+
+pub returns : goal.returns
+returns c =
+    rw (now_read c.args.buffers.now c.args.k c.index-buffers-k.result c.requires.k c.index-buffers-k.is, held_read c.args.buffers.now c.args.i c.index-buffers-i.result c.requires.i c.index-buffers-i.is)
+    c.meets.ensures
