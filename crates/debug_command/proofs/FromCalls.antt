@@ -1,5 +1,5 @@
 -- How a session was held, from what its calls give.
-use Rattle.std.proofs.Common.{◌≡◌, ℕ, List, sym, ◌∙◌, ap, subst, Ok, Err}
+use Rattle.std.proofs.Common.{◌≡◌, ℕ, List, sym, ◌∙◌, ap, subst, true, Ok, Err}
 use Rattle.debug_runs.proofs.Ends.{cut_said, whole_said}
 use Rattle.debug_runs.specs.Holding.{HoldsJob}
 use Rattle.g5_outside.specs.Views.{ShelfView, SinkView, SourceView}
@@ -19,11 +19,11 @@ use Rattle.debug_command.specs.declared.preparing.Prepared.{Prepared}
 
 pub session_held : (names : SessionNames) (c : Config) (a b : ShelfView) (k : SourceView)
     (o q : SinkView) (y z : Chip) (u v w : Tape) (p : Prepared) (xs : List ℕ) (n : Counts)
-    → IsPrepared names c a k y p → b.numbers ≡ a.numbers → v ≡ u → xs ≡ p.lines.items
+    → IsPrepared names c a k y p → b.numbers ≡ a.numbers → b.found ≡ true → v ≡ u → xs ≡ p.lines.items
     → ((d : Config) (j : Job) → IsReadyJob d j y p.ready
     → HoldsJob {E = Failed} d j xs z v w o q (Ok n))
     → HoldsSession names c a b k o q z u w (record { within = p.ready.within; counts = n })
-session_held names c a b k o q y z u v w p xs n is numbers tape same h =
+session_held names c a b k o q y z u v w p xs n is numbers found tape same h =
     let held : HoldsJob {E = Failed} c is.job p.lines.items z u w o q (Ok n) =
     subst (λ t. HoldsJob {E = Failed} c is.job p.lines.items z t w o q (Ok n)) tape
     (subst (λ ls. HoldsJob {E = Failed} c is.job ls z v w o q (Ok n)) same (h c is.job is.ready)) in
@@ -35,14 +35,15 @@ session_held names c a b k o q y z u v w p xs n is numbers tape same h =
       session = held;
       whole = whole_said {E = Failed} c is.job p.lines.items z u w o q n held;
       numbers = numbers;
+      found = found;
     }
 
 pub session_cut : (names : SessionNames) (c : Config) (a b : ShelfView) (k : SourceView)
     (o q : SinkView) (y z : Chip) (v w : Tape) (p : Prepared) (xs : List ℕ) (e : Failed)
-    → IsPrepared names c a k y p → b.numbers ≡ a.numbers → xs ≡ p.lines.items
+    → IsPrepared names c a k y p → b.numbers ≡ a.numbers → b.found ≡ true → xs ≡ p.lines.items
     → ((d : Config) (j : Job) → IsReadyJob d j y p.ready → HoldsJob d j xs z v w o q (Err e))
     → CutsSession names c a b k o q
-session_cut names c a b k o q y z v w p xs e is numbers same h =
+session_cut names c a b k o q y z v w p xs e is numbers found same h =
     let held : HoldsJob c is.job p.lines.items z v w o q (Err e) =
     subst (λ ls. HoldsJob c is.job ls z v w o q (Err e)) same (h c is.job is.ready) in
     record {
@@ -56,6 +57,7 @@ session_cut names c a b k o q y z v w p xs e is numbers same h =
       session = held;
       cut = cut_said c is.job p.lines.items z v w o q e held;
       numbers = numbers;
+      found = found;
     }
 
 -- a refusal before the first line is no failed write

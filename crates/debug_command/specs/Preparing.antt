@@ -1,6 +1,6 @@
 -- The inputs of a session that were read: those that are accepted, and those that are refused.
 -- Source: choice of this project.
-use Rattle.std.specs.Prelude.{◌≡◌, ◌⊎◌, Err}
+use Rattle.std.specs.Prelude.{◌≡◌, ◌⊎◌, ◌<◌, ℕ, List, length, Ok, Err, IsTrue, true}
 use Rattle.g5_outside.specs.Views.{ShelfView, SourceView}
 use Rattle.g5_reading.specs.Sources.{AreAllOf, IsUnreadSource}
 use Rattle.job_inputs.specs.Reads.{AreRead, IsUnread}
@@ -14,7 +14,6 @@ use Rattle.program_model.specs.declared.status.Status.TheVariants.{ReadFault, De
 use Rattle.run_model.specs.declared.logs.Config.{Config}
 use Rattle.silicon.specs.Chip.{Chip}
 use Rattle.debug_command.specs.declared.preparing.Prepared.{Prepared}
-use Rattle.std.specs.Prelude.{ℕ, List, Ok}
 
 -- the files were read, and give this job; and these are the lines
 pub record IsGiven (names : SessionNames) (c : Config) (j : Job) (lines : List ℕ)
@@ -31,19 +30,31 @@ pub record IsPrepared (names : SessionNames) (c : Config) (shelf : ShelfView) (k
   pub given : IsGiven names c job p.lines.items shelf keys
   pub ready : IsReadyJob c job z p.ready
 
--- the files were read, and this is their first refusal
-pub record HasRefusal (names : SessionNames) (c : Config) (shelf : ShelfView) (status : Status) :
+-- files and lines were read, and this is the first refusal of the files
+pub record HasRefusal (names : SessionNames) (c : Config) (old new : ShelfView) (keys : SourceView)
+    (status : Status) : Type 0 where
+  pub bytes : JobBytes
+  pub read : AreRead names old bytes
+  pub lines : List ℕ
+  pub lines_are : AreAllOf (limit Keys) keys lines
+  pub refused : job c bytes ≡ Err status
+  pub found : new.found ≡ true
+
+-- the files were read, and the lines have more bytes than their limit
+pub record HasTooManyLines (names : SessionNames) (old new : ShelfView) (keys : SourceView) :
     Type 0 where
   pub bytes : JobBytes
-  pub read : AreRead names shelf bytes
-  pub refused : job c bytes ≡ Err status
+  pub read : AreRead names old bytes
+  pub above : IsTrue keys.told → limit Keys < length keys.left
+  pub found : new.found ≡ true
 
 -- each status that comes before the first line, by its cause
 abbrev pub IsRefused : SessionNames → Config → ShelfView → ShelfView → SourceView → SourceView → Status
     → Type 0
 IsRefused names c a b k l ReadFault = IsUnread names a b ReadFault ⊎ IsUnreadSource Keys k l ReadFault
-IsRefused names c a b k l (TooLarge Keys) = IsUnreadSource Keys k l (TooLarge Keys)
-IsRefused names c a b k l (DeckRefused refusal) = HasRefusal names c a (DeckRefused refusal)
-IsRefused names c a b k l (ScheduleRefused refusal) = HasRefusal names c a (ScheduleRefused refusal)
-IsRefused names c a b k l (ScriptRefused refusal) = HasRefusal names c a (ScriptRefused refusal)
+IsRefused names c a b k l (TooLarge Keys) = HasTooManyLines names a b k
+IsRefused names c a b k l (DeckRefused refusal) = HasRefusal names c a b k (DeckRefused refusal)
+IsRefused names c a b k l (ScheduleRefused refusal) =
+    HasRefusal names c a b k (ScheduleRefused refusal)
+IsRefused names c a b k l (ScriptRefused refusal) = HasRefusal names c a b k (ScriptRefused refusal)
 IsRefused names c a b k l status = IsUnread names a b status

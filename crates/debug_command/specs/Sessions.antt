@@ -1,6 +1,6 @@
 -- How a session is held, from its files and lines to its output: each status by its cause.
 -- Source: choice of this project.
-use Rattle.std.specs.Prelude.{◌≡◌, ◌↔◌, ℕ, List, IsTrue, Ok, Err}
+use Rattle.std.specs.Prelude.{◌≡◌, ◌↔◌, ℕ, List, IsTrue, Ok, Err, true}
 use Rattle.debug_runs.specs.Consequences.{IsSoundSession, SaysCut, SaysWhole}
 use Rattle.debug_runs.specs.Holding.{HoldsJob, IsSoundFor, session_of_job}
 use Rattle.g5_outside.specs.Views.{ShelfView, SinkView, SourceView}
@@ -28,6 +28,7 @@ pub record HoldsSession (names : SessionNames) (c : Config) (a b : ShelfView) (k
   pub session : HoldsJob {E = Failed} c job lines z v w o p (Ok held.counts)
   pub whole : IsSoundSession c job lines → SaysWhole c job lines z v w o p
   pub numbers : b.numbers ≡ a.numbers
+  pub found : b.found ≡ true
 
 -- The output failed in the midst of an answer: where the turns that were made are sound, it has the
 -- text of the definitions' session up to there.
@@ -43,6 +44,7 @@ pub record CutsSession (names : SessionNames) (c : Config) (a b : ShelfView) (k 
   pub session : HoldsJob c job lines chip before after o p (Err failed)
   pub cut : IsSoundFor c job session.asked → SaysCut (session_of_job c job lines) o p
   pub numbers : b.numbers ≡ a.numbers
+  pub found : b.found ≡ true
 
 -- nothing was begun
 pub record BeginsNone (names : SessionNames) (c : Config) (a b : ShelfView) (k l : SourceView)

@@ -1,5 +1,5 @@
 // All that is done before the first line of a session.
-ghost use Rattle.std.specs.Prelude.{◌≡◌, IfErr, IfOk};
+ghost use Rattle.std.specs.Prelude.{◌≡◌, IfErr, IfOk, OnOk, true};
 ghost use Rattle.g5_reading.specs.Inputs.{OnlyReads};
 ghost use Rattle.g5_reading.specs.Sources.{OnlyTakes};
 ghost use Rattle.g5_words.specs.Asked.{session_names};
@@ -43,6 +43,7 @@ pub fn prepare<F: Shelf, I: Source, Z: Silicon>(
         (I.seen keys.old) (Z.seen silicon.new)) }
     ensures refused { IfErr result (IsRefused (session_names names.now) config (F.seen shelf.old)
         (F.seen shelf.new) (I.seen keys.old) (I.seen keys.new)) }
+    ensures found { OnOk result ((F.seen shelf.new).found ≡ true) }
     ensures tape { Z.tape silicon.new ≡ Z.tape silicon.old }
 {
     let inputs = match read_inputs(alloc, shelf, names) {

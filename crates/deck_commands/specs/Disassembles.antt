@@ -30,6 +30,7 @@ pub record Disassembles (name : List ℕ) (at count : ℕ) (a b : ShelfView) (o 
   pub loaded : HasBytes (image storage_size deck) storage
   pub out : IsTrue o.told → p.taken ≡ o.taken ++ listing storage count at
   pub numbers : b.numbers ≡ a.numbers
+  pub found : b.found ≡ true
 
 -- the output failed in the midst of them
 pub record DisassemblesInPart (name : List ℕ) (at count : ℕ) (a b : ShelfView) (o p : SinkView) :
@@ -42,6 +43,7 @@ pub record DisassemblesInPart (name : List ℕ) (at count : ℕ) (a b : ShelfVie
   pub out : IsTrue o.told → p.taken ≡ o.taken ++ take bytes (listing storage count at)
   pub numbers : b.numbers ≡ a.numbers
   pub cause : Rose o.faults p.faults
+  pub found : b.found ≡ true
 
 -- the deck is refused
 pub record RefusesDeck (name : List ℕ) (a b : ShelfView) (o p : SinkView) (refusal : DeckRefusal) :

@@ -13,6 +13,6 @@ pub is_nil : (xs : List ℕ) → length xs ≡ 0 → xs ≡ []
 is_nil [] e = refl
 is_nil (x ∷ xs) e = absurd (omega arith)
 
--- none was moved into some room, so none was left
-pub end_of_moved : (bytes into : List ℕ) (at n : ℕ) → n ≡ min (length (drop at bytes)) (length into) → n ≡ 0 → 0 < length into → drop at bytes ≡ []
-end_of_moved bytes into at n count zero room = is_nil (drop at bytes) (omega arith)
+-- none was moved into some room in a step of some bytes, so none was left
+pub end_of_moved : (bytes into : List ℕ) (at n most : ℕ) → n ≡ min (min (length (drop at bytes)) (length into)) most → n ≡ 0 → 0 < length into → 0 < most → drop at bytes ≡ []
+end_of_moved bytes into at n most count zero room some = is_nil (drop at bytes) (omega arith)

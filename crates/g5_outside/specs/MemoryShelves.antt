@@ -2,7 +2,7 @@
 use Rattle.std.specs.Prelude.{ℕ, true, drop}
 use Rattle.g5_outside.specs.Numbers.{numbers_below}
 use Rattle.g5_outside.specs.Views.{ShelfView}
-use Rattle.g5_outside.specs.Plans.{Plan, plan_of}
+use Rattle.g5_outside.specs.Plans.{Plan, plan_of, step_of}
 use Rattle.g5_outside.specs.CreatedPairs.{name_in, created_text, pair_room}
 use Rattle.g5_outside.specs.MemoryFiles.{files_of, bytes_at}
 use Rattle.g5_outside.specs.declared.memory_shelf.MemoryShelf.{MemoryShelf}
@@ -23,6 +23,10 @@ shelf_view s = record {
 -- which of its calls fail, and how many were made
 abbrev pub shelf_plan : MemoryShelf → Plan
 shelf_plan s = plan_of s.calls
+
+-- the most bytes that one read or write moves
+abbrev pub shelf_step : MemoryShelf → ℕ
+shelf_step s = step_of s.calls
 
 -- the room for each created file, and for its name
 abbrev pub shelf_room : MemoryShelf → ℕ

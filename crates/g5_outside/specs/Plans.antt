@@ -1,4 +1,4 @@
--- Calls in memory, some of which are to fail.
+-- Calls in memory, some of which are to fail, and how much one of them moves.
 use Rattle.std.specs.Prelude.{ℕ, ◌+◌, ◌-◌, ◌^◌, ◌==◌, Bool, List, min}
 use Rattle.std.specs.List.{list_any}
 use Rattle.g5_outside.specs.declared.planned_calls.PlannedCalls.{PlannedCalls}
@@ -23,3 +23,7 @@ after_call plan = record { failing = plan.failing; made = next_number plan }
 
 abbrev pub plan_of : PlannedCalls → Plan
 plan_of calls = record { failing = calls.failing.items; made = calls.made }
+
+-- the most bytes that one call moves
+abbrev pub step_of : PlannedCalls → ℕ
+step_of calls = calls.step

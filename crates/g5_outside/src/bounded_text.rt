@@ -25,14 +25,14 @@ impl BoundedText {
         })
     }
 
-    /// Adds as many first bytes as there is room for, and says how many.
-    pub fn add(&mut self, more: &[u8]) -> usize
+    /// Adds as many first bytes as there is room for, at most so many, and says how many.
+    pub fn add(&mut self, more: &[u8], most: usize) -> usize
         ensures text { text_in self.new ≡ text_in self.old ++ take result more.now }
-        ensures count { result ≡ min (room_in self.old - length (text_in self.old)) (length more.now) }
+        ensures count { result ≡ min (min (room_in self.old - length (text_in self.old)) (length more.now)) most }
         ensures room { room_in self.new ≡ room_in self.old }
     {
         let start = self.filled;
-        let count = more.len().min(self.bytes.len() - start);
+        let count = more.len().min(self.bytes.len() - start).min(most);
         self.bytes[start..start + count].copy_from_slice(&more[..count]);
         self.filled = start + count;
         count
@@ -59,16 +59,16 @@ impl BoundedText {
     }
 }
 
-/// Moves some bytes from a place on to the front of the slice, and says how many.
-pub fn read_from(bytes: &[u8], at: usize, into: &mut [u8]) -> usize
-    ensures count { result ≡ min (length (drop at bytes.now)) (length into.new) }
+/// Moves some bytes from a place on to the front of the slice, at most so many, and says how many.
+pub fn read_from(bytes: &[u8], at: usize, into: &mut [u8], most: usize) -> usize
+    ensures count { result ≡ min (min (length (drop at bytes.now)) (length into.new)) most }
     ensures moved { drop at bytes.now ≡ take result into.new ++ drop (at + result) bytes.now }
     ensures fits { at + result < 2 ^ 64 }
 {
     if at >= bytes.len() {
         return 0;
     }
-    let count = into.len().min(bytes.len() - at);
+    let count = into.len().min(bytes.len() - at).min(most);
     into[..count].copy_from_slice(&bytes[at..at + count]);
     count
 }

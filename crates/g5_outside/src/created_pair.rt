@@ -33,7 +33,7 @@ impl CreatedFile {
     {
         self.text.clear();
         self.name.clear();
-        self.name.add(name);
+        self.name.add(name, name.len());
     }
 }
 
@@ -80,19 +80,20 @@ impl CreatedPair {
         }
     }
 
-    /// Adds as many first bytes to the text of a number as there is room for, and says how many.
-    pub fn add(&mut self, number: u32, bytes: &[u8]) -> usize
+    /// Adds as many first bytes to the text of a number as there is room for, at most so many, and says
+    /// how many.
+    pub fn add(&mut self, number: u32, bytes: &[u8], most: usize) -> usize
         requires { number < 2 }
-        ensures count { result ≡ min (pair_room self.old - length (created_text self.old number)) (length bytes.now) }
+        ensures count { result ≡ min (min (pair_room self.old - length (created_text self.old number)) (length bytes.now)) most }
         ensures text { created_text self.new number ≡ created_text self.old number ++ take result bytes.now }
         ensures names { (n : ℕ) → name_in self.new n ≡ name_in self.old n }
         ensures others { (n : ℕ) → n ≢ number → created_text self.new n ≡ created_text self.old n }
         ensures room { pair_room self.new ≡ pair_room self.old }
     {
         if number == 0 {
-            self.first.text.add(bytes)
+            self.first.text.add(bytes, most)
         } else {
-            self.second.text.add(bytes)
+            self.second.text.add(bytes, most)
         }
     }
 }

@@ -1,5 +1,5 @@
 // Files in memory.
-ghost use Rattle.std.specs.Prelude.{◌≡◌, ◌+◌, ◌-◌, ◌<◌, ◌≤◌, ℕ, [], length, min, IfOk, OnErr, IsTrue, is_ok, not, ◌||◌, Some, None, nat_lt, if◌then◌else◌, true, false};
+ghost use Rattle.std.specs.Prelude.{◌≡◌, ◌+◌, ◌-◌, ◌<◌, ◌≤◌, ◌^◌, ℕ, [], length, min, IfOk, OnErr, IsTrue, is_ok, not, ◌||◌, Some, None, nat_lt, if◌then◌else◌, true, false};
 ghost use Rattle.std.specs.Result.{result_unwrap_or};
 ghost use Rattle.g5_outside.specs.Views.{Gave};
 ghost use Rattle.g5_outside.specs.Causes.{HasCause, HasWriteCause};
@@ -21,7 +21,8 @@ pub struct NamedFile {
 }
 
 /// Files in memory, and room for two that are created. Its calls are numbered from 1, and those whose
-/// numbers it was given fail. It tells all that it holds.
+/// numbers it was given fail. A read or write moves as many bytes as it can, or at most as many as were
+/// set. It tells all that it holds.
 #[derive(Drop)]
 pub struct MemoryShelf {
     files: Vec<NamedFile>,
@@ -37,7 +38,7 @@ pub struct MemoryShelf {
 }
 
 impl MemoryShelf {
-    ghost use Rattle.g5_outside.specs.MemoryShelves.{shelf_view, shelf_plan, shelf_room};
+    ghost use Rattle.g5_outside.specs.MemoryShelves.{shelf_view, shelf_plan, shelf_step, shelf_room};
 
     /// Of files with one name the first counts. Each of the two files that can be created has so many bytes
     /// of room, and each of their names as many.
@@ -54,6 +55,7 @@ impl MemoryShelf {
         ensures read_faults { IfOk result (λ s. (shelf_view s).read_faults ≡ 0) }
         ensures write_faults { IfOk result (λ s. (shelf_view s).write_faults ≡ 0) }
         ensures plan { IfOk result (λ s. shelf_plan s ≡ fresh_plan failing.items) }
+        ensures step { IfOk result (λ s. shelf_step s ≡ 2 ^ 64 - 1) }
         ensures room { IfOk result (λ s. shelf_room s ≡ room) }
     {
         Ok(MemoryShelf {
@@ -67,6 +69,17 @@ impl MemoryShelf {
             read_faults: 0,
             write_faults: 0,
         })
+    }
+
+    /// From now on one read or write moves at most so many bytes.
+    pub fn set_step(&mut self, n: usize)
+        requires { 0 < n }
+        ensures step { shelf_step self.new ≡ n }
+        ensures view { shelf_view self.new ≡ shelf_view self.old }
+        ensures plan { shelf_plan self.new ≡ shelf_plan self.old }
+        ensures room { shelf_room self.new ≡ shelf_room self.old }
+    {
+        self.calls.set_step(n);
     }
 
     /// The name of a created file.
@@ -114,7 +127,7 @@ fn place_of(files: &[NamedFile], name: &str) -> usize
 }
 
 impl Shelf for MemoryShelf {
-    ghost use Rattle.g5_outside.specs.MemoryShelves.{shelf_view, shelf_plan, shelf_room};
+    ghost use Rattle.g5_outside.specs.MemoryShelves.{shelf_view, shelf_plan, shelf_step, shelf_room};
 
     ghost seen = { shelf_view };
 
@@ -127,6 +140,7 @@ impl Shelf for MemoryShelf {
         ensures content { IsTrue (shelf_view self.old).told → Finds name.now (shelf_view self.old) (shelf_view self.new) result }
         ensures planned { is_ok result ≡ not (fails_next (shelf_plan self.old)) }
         ensures counted { shelf_plan self.new ≡ after_call (shelf_plan self.old) }
+        ensures step { shelf_step self.new ≡ shelf_step self.old }
         ensures room { shelf_room self.new ≡ shelf_room self.old }
     {
         self.found = false;
@@ -152,8 +166,9 @@ impl Shelf for MemoryShelf {
         ensures told { (shelf_view self.new).told ≡ (shelf_view self.old).told }
         ensures content { IsTrue (shelf_view self.old).told → Reads into.new (shelf_view self.old) (shelf_view self.new) result }
         ensures planned { is_ok result ≡ not (fails_next (shelf_plan self.old)) }
-        ensures count { IfOk result (λ n. n ≡ min (length (shelf_view self.old).left) (length into.new)) }
+        ensures count { IfOk result (λ n. n ≡ min (min (length (shelf_view self.old).left) (length into.new)) (shelf_step self.old)) }
         ensures counted { shelf_plan self.new ≡ after_call (shelf_plan self.old) }
+        ensures step { shelf_step self.new ≡ shelf_step self.old }
         ensures room { shelf_room self.new ≡ shelf_room self.old }
     {
         if self.calls.next_fails() {
@@ -163,7 +178,8 @@ impl Shelf for MemoryShelf {
         if self.at_file >= self.files.len() {
             return Ok(0);
         }
-        let count = read_from(&self.files[self.at_file].bytes, self.at_byte, into);
+        let step = self.calls.step;
+        let count = read_from(&self.files[self.at_file].bytes, self.at_byte, into, step);
         self.at_byte += count;
         Ok(count)
     }
@@ -178,6 +194,7 @@ impl Shelf for MemoryShelf {
         ensures content { IsTrue (shelf_view self.old).told → Creates name.now (shelf_view self.old) (shelf_view self.new) result }
         ensures planned { is_ok result ≡ not (fails_next (shelf_plan self.old) || nat_lt (shelf_room self.old) (length name.now)) }
         ensures counted { shelf_plan self.new ≡ after_call (shelf_plan self.old) }
+        ensures step { shelf_step self.new ≡ shelf_step self.old }
         ensures room { shelf_room self.new ≡ shelf_room self.old }
     {
         if self.calls.next_fails() || self.created.room() < name.len() {
@@ -201,15 +218,16 @@ impl Shelf for MemoryShelf {
         ensures told { (shelf_view self.new).told ≡ (shelf_view self.old).told }
         ensures content { Writes file.0 bytes.now (shelf_view self.old) (shelf_view self.new) result }
         ensures planned { is_ok result ≡ not (fails_next (shelf_plan self.old)) }
-        ensures count { IfOk result (λ n. n ≡ min (shelf_room self.old - length ((shelf_view self.old).text_of file.0)) (length bytes.now)) }
+        ensures count { IfOk result (λ n. n ≡ min (min (shelf_room self.old - length ((shelf_view self.old).text_of file.0)) (length bytes.now)) (shelf_step self.old)) }
         ensures counted { shelf_plan self.new ≡ after_call (shelf_plan self.old) }
+        ensures step { shelf_step self.new ≡ shelf_step self.old }
         ensures room { shelf_room self.new ≡ shelf_room self.old }
     {
         if self.calls.next_fails() {
             self.write_faults = self.write_faults.saturating_add(1);
             return Err(Failed);
         }
-        let count = self.created.add(file.0, bytes);
+        let count = self.created.add(file.0, bytes, self.calls.step);
         if count == 0 {
             self.write_faults = self.write_faults.saturating_add(1);
         }

@@ -95,6 +95,27 @@ fn streams_in_memory(rt: HostRuntime) -> Result<(), Fail> {
 }
 
 #[test]
+fn small_steps(rt: HostRuntime) -> Result<(), Fail> {
+    let alloc = rt.alloc();
+    let mut shelf = memory_shelf(alloc, &[], 100)?;
+    shelf.set_step(3);
+    assert_eq!(rt; copy_eight(&mut shelf, "deck", "copy"), Ok(Some(3)));
+    assert_eq!(rt; shelf.text_of(FileNo(0)), b"ABC".as_slice());
+    let mut source = MemorySource::new(Vec::from_slice(alloc, b"abc")?, Vec::new(alloc));
+    source.set_step(2);
+    let mut into = [0u8; 4];
+    assert_eq!(rt; source.read(&mut into), Ok(2));
+    assert_eq!(rt; source.read(&mut into), Ok(1));
+    assert_eq!(rt; source.read(&mut into), Ok(0));
+    let mut sink = MemorySink::new(alloc, Vec::new(alloc), 4)?;
+    sink.set_step(1);
+    assert_eq!(rt; sink.write(b"ab"), Ok(1));
+    assert_eq!(rt; sink.write(b"b"), Ok(1));
+    assert_eq!(rt; sink.taken(), b"ab".as_slice());
+    Ok(())
+}
+
+#[test]
 fn files_of_the_host(rt: HostRuntime) -> Result<(), Fail> {
     let (from, to) = ("files_of_the_host_from", "files_of_the_host_to");
     fs::write(&rt, from, "ABCDEFGHIJ")?;

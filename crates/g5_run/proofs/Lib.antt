@@ -3,6 +3,7 @@ pub mod Accepted
 pub mod Consequences
 pub mod MadeWhole
 pub mod Completing
+pub mod Searching
 pub mod KeysKept
 pub mod Headlines
 pub mod Headed

@@ -114,7 +114,7 @@ lines_fit names c j a b k l Script h ok =
 lines_fit names c j a b k l Keys h ok =
     let e : length ok.lines ≡ length k.left = ap length (ok.given.lines_are.is ok.keys_told) in
     let bound : length ok.lines ≤ limit Keys = ok.given.lines_are.bound in
-    let above : limit Keys < length k.left = h.1 ok.keys_told in
+    let above : limit Keys < length k.left = h.above ok.keys_told in
     absurd (omega arith)
 lines_fit names c j a b k l Log h ok =
     not_too_large names c j a b Log (gives_session names c j a k ok) h

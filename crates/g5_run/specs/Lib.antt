@@ -9,6 +9,7 @@ pub mod Conversing
 pub mod Shows
 pub mod Ends
 pub mod Complete
+pub mod Searching
 pub mod Headline
 pub mod LawfulLogs
 pub mod Readiness

@@ -3,6 +3,7 @@ ghost use Rattle.std.specs.Prelude.{◌≡◌, [], IfOk};
 ghost use Rattle.g5_outside.specs.MemoryShelves.{shelf_view};
 
 mod decks;
+mod failing_calls;
 mod faults;
 mod generated;
 mod groups;

@@ -1,5 +1,5 @@
 // The top call.
-ghost use Rattle.std.specs.Prelude.{◌≡◌, ◌≢◌, ◌⊎◌, [], IfSome, Some, map, option_map, string_bytes};
+ghost use Rattle.std.specs.Prelude.{◌≡◌, ◌≢◌, ◌⊎◌, [], IfSome, Some, false, map, option_map, string_bytes, true};
 ghost use Rattle.g5_words.specs.Asked.{asked_by, job_names};
 ghost use Rattle.g5_words.specs.Ranges.{IsInLimits, IsSound};
 ghost use Rattle.program_model.specs.Accepted.{Job};
@@ -14,6 +14,7 @@ ghost use Rattle.g5_run.specs.Leaving.{KeepsKeys, beside, silicon_after};
 ghost use Rattle.g5_run.specs.Headline.{Headline, SameWithoutFaults};
 ghost use Rattle.g5_run.specs.Holding.{Untouched};
 ghost use Rattle.g5_run.specs.LawfulLogs.{HasLawfulLog};
+ghost use Rattle.g5_run.specs.Searching.{ComesAfterSearch, IsOfNoFile, ReadsFiles};
 
 use crate::decks::disassemble_and_say;
 use crate::generated::generate_and_run;
@@ -172,6 +173,9 @@ pub fn g5_top<F: Shelf, I: Source, O: Sink, E: Sink, Z: Silicon>(
         → Untouched (F.seen shelf.old) (F.seen shelf.new) (O.seen out.old) (O.seen out.new) }
     ensures keys { KeepsKeys (asked (map string_bytes words.now)) (I.seen keys.old)
         (I.seen keys.new) }
+    ensures missing { IsOfNoFile result → (F.seen shelf.new).found ≡ false }
+    ensures found { (d : CommandAsked) → asked (map string_bytes words.now) ≡ Some d
+        → ReadsFiles d → ComesAfterSearch result → (F.seen shelf.new).found ≡ true }
     ensures complete { (d : CommandAsked) → asked (map string_bytes words.now) ≡ Some d
         → IsAcceptedBy d (F.seen shelf.old) (I.seen keys.old)
         → NothingFailed (F.seen shelf.old) (F.seen shelf.new) (O.seen out.old) (O.seen out.new)

@@ -1,6 +1,6 @@
 -- How a log is judged, from its file to the output: each status by its cause.
 -- Source: choice of this project.
-use Rattle.std.specs.Prelude.{◌≡◌, ℕ, List, ◌++◌, take, Option, Some, None, Result, Ok, Err, IsTrue}
+use Rattle.std.specs.Prelude.{◌≡◌, ℕ, List, ◌++◌, take, Option, Some, None, Result, Ok, Err, IsTrue, true}
 use Rattle.g5_outside.specs.Causes.{Rose}
 use Rattle.g5_outside.specs.Views.{ShelfView, SinkView}
 use Rattle.g5_reading.specs.Inputs.{IsIn, IsUnreadInput}
@@ -26,6 +26,7 @@ pub record Audits (name : List ℕ) (a b : ShelfView) (o p : SinkView)
   pub is : verdict ≡ refusal_in (audited log)
   pub out : IsTrue o.told → p.taken ≡ o.taken ++ audit_line verdict
   pub numbers : b.numbers ≡ a.numbers
+  pub found : b.found ≡ true
 
 -- the output failed in the midst of it
 pub record AuditsInPart (name : List ℕ) (a b : ShelfView) (o p : SinkView) : Type 0 where
@@ -36,6 +37,7 @@ pub record AuditsInPart (name : List ℕ) (a b : ShelfView) (o p : SinkView) : T
       → p.taken ≡ o.taken ++ take count (audit_line (refusal_in (audited log)))
   pub numbers : b.numbers ≡ a.numbers
   pub cause : Rose o.faults p.faults
+  pub found : b.found ≡ true
 
 -- the log was not read
 pub record IsUnread (name : List ℕ) (a b : ShelfView) (o p : SinkView) (status : Status) :

@@ -22,6 +22,7 @@ pub record Migrates (old new : List ℕ) (a b : ShelfView) : Type 0 where
   pub numbers : b.numbers ≡ file ∷ []
   pub named : IsTrue a.told → OnlyName new b
   pub holds : IsTrue a.told → text_named b new ≡ text
+  pub found : b.found ≡ true
 
 -- it has some first bytes of it, or could not be created
 pub record MigratesInPart (old new : List ℕ) (a b : ShelfView) : Type 0 where
@@ -33,6 +34,7 @@ pub record MigratesInPart (old new : List ℕ) (a b : ShelfView) : Type 0 where
   pub named : IsTrue a.told → OnlyName new b
   pub holds : IsTrue a.told → text_named b new ≡ take count text
   pub cause : Rose a.write_faults b.write_faults
+  pub found : b.found ≡ true
 
 -- the log is refused, and no file was created
 pub record RefusesLog (old : List ℕ) (a b : ShelfView) (refusal : MigrateRefusal) : Type 0 where

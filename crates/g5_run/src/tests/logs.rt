@@ -21,7 +21,7 @@ struct Case<'a> {
     err: &'a [u8],
 }
 
-const OLD: &[u8] = b"G5LOG 1 CPUS 1 SPARES 0 THRESHOLD 3\nEND 10\n";
+pub const OLD: &[u8] = b"G5LOG 1 CPUS 1 SPARES 0 THRESHOLD 3\nEND 10\n";
 
 const MIGRATE: &[&str] = &["migrate", "D", "N"];
 

@@ -159,7 +159,8 @@ static LOOP: [u8; 16] = [
 ];
 
 // Word strikes: one is corrected, two in one word are not, the same bit twice is none; three in a
-// block are past the premise. And a core that is returned and taken again.
+// block are past the premise, and so are both units struck in one bit. And a core that is returned and
+// taken again.
 #[test]
 fn words_struck_and_cores_taken_again(rt: HostRuntime) -> Result<(), Fail> {
     let alloc = rt.alloc();
@@ -199,6 +200,14 @@ END 20 RETURNED 0\n",
             log: b"G5LOG 2 CPUS 1 SPARES 0 THRESHOLD 3\n17 0 0 CORRECTED 5 13\n\
 END 20 RETURNED 0\n",
             report: b"premise broken\nturns 20 commits 20 retries 0 spared 0 stopped 0\n",
+        },
+        Case {
+            options: ONE,
+            schedule: b"0*12",
+            script: b"U 0 2 A 80 1\nU 0 2 B 80 1\n",
+            number: 0,
+            log: b"G5LOG 2 CPUS 1 SPARES 0 THRESHOLD 3\nEND 12 RETURNED 0\n",
+            report: b"premise broken\nturns 12 commits 12 retries 0 spared 0 stopped 0\n",
         },
         Case {
             options: ["--cpus=1", "--spares=1"],

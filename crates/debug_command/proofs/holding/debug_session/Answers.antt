@@ -42,7 +42,7 @@ returns-in-Ok-hold_session-clause-held g c =
     (g.Z.Silicon.tape c.args.silicon.now) (g.Z.Silicon.tape c.prepare.new.silicon)
     (g.Z.Silicon.tape c.hold_session.new.silicon) c.in-Ok.prepared c.deref.result.now
     c.in-Ok-hold_session.counts c.in-Ok.ensures.prepared c.prepare.ensures.only.numbers
-    c.prepare.ensures.tape c.deref.ensures.value c.in-Ok-hold_session.ensures
+    c.in-Ok.ensures.found c.prepare.ensures.tape c.deref.ensures.value c.in-Ok-hold_session.ensures
 
 pub returns-clause-fails : goal.returns-clause-fails
 returns-clause-fails g c =
@@ -52,4 +52,5 @@ returns-clause-fails g c =
     (g.Z.Silicon.seen c.prepare.new.silicon) (g.Z.Silicon.seen c.hold_session.new.silicon)
     (g.Z.Silicon.tape c.prepare.new.silicon) (g.Z.Silicon.tape c.hold_session.new.silicon)
     c.in-Ok.prepared c.deref.result.now c.in-Err-hold_session.field-0 c.in-Ok.ensures.prepared
-    c.prepare.ensures.only.numbers c.deref.ensures.value c.in-Err-hold_session.ensures
+    c.prepare.ensures.only.numbers c.in-Ok.ensures.found c.deref.ensures.value
+    c.in-Err-hold_session.ensures

@@ -24,10 +24,10 @@ returns-clause-content c =
       files = refl;
       created = record { names = λ n. refl; texts = λ n. refl };
       bytes = rw e c.read_from-count.ensures.moved;
-      end = λ zero. rw e (end_of_moved c.deref.result.now c.read_from-count.new.into c.args.self.now.at_byte c.read_from-count.result c.read_from-count.ensures.count zero (omega arith));
+      end = λ zero. rw e (end_of_moved c.deref.result.now c.read_from-count.new.into c.args.self.now.at_byte c.read_from-count.result c.next_fails.new.self.step c.read_from-count.ensures.count zero (omega arith) c.next_fails.new.self.in_range);
     }
 
 pub returns-clause-count : goal.returns-clause-count
 returns-clause-count c =
     let e : bytes_at c.args.self.now.files.items c.args.self.now.at_file ≡ c.deref.result.now = bytes_at_get c.args.self.now.files.items c.args.self.now.at_file c.index.result.now (omega arith) ∙ cc in
-    rw e c.read_from-count.ensures.count
+    rw e (omega (arith, c.read_from-count.ensures.count, c.next_fails.ensures.step))
