@@ -12,6 +12,7 @@ entry, so that the program begins at offset 0. What the columns of the cards hol
 import sys
 
 BLANK = b"\x40"
+SECTION, LABEL, EXTERNAL, WEAK = 0, 1, 2, 10
 
 
 def bytes_of(listing):
@@ -34,14 +35,42 @@ def card(kind, address, count, esdid, data):
     return b"".join([*fields, data]).ljust(80, BLANK)
 
 
-def deck_of(text):
-    item = "MAIN    ".encode("cp037") + bytes(4) + BLANK + len(text).to_bytes(3, "big")
-    cards = [card("ESD", None, 16, 1, item)]
+def esd_item(name, sort, address, extent):
+    """Of a section the extent is its length, of a label the ESDID of its section."""
+    item = name.ljust(8).encode("cp037") + bytes([sort]) + address.to_bytes(3, "big")
+    return item + BLANK + extent.to_bytes(3, "big")
+
+
+def esd_card(esdid, items):
+    """At most three items, of which the first that is no label has this ESDID."""
+    data = b"".join(items)
+    return card("ESD", None, len(data), esdid, data)
+
+
+def txt_cards(esdid, address, text):
     for at in range(0, len(text), 56):
         part = text[at : at + 56]
-        cards.append(card("TXT", at, len(part), 1, part))
-    cards.append(card("END", None, None, None, b""))
-    return b"".join(cards)
+        yield card("TXT", address + at, len(part), esdid, part)
+
+
+def rld_item(target, place, address):
+    """The address of an ESDID, the target, is added to the four bytes at an address of a section, the place."""
+    return target.to_bytes(2, "big") + place.to_bytes(2, "big") + b"\x0C" + address.to_bytes(3, "big")
+
+
+def rld_card(items):
+    """At most seven items."""
+    data = b"".join(items)
+    return card("RLD", None, len(data), None, data)
+
+
+def end_card():
+    return card("END", None, None, None, b"")
+
+
+def deck_of(text):
+    section = esd_item("MAIN", SECTION, 0, len(text))
+    return b"".join([esd_card(1, [section]), *txt_cards(1, 0, text), end_card()])
 
 
 def main():
