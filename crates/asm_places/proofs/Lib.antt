@@ -1,0 +1,13 @@
+mod Accepting
+mod Chains
+mod Finding
+mod FormSteps
+mod NameSteps
+mod OperationBytes
+mod OutSteps
+mod PlaceSteps
+mod ProgramSteps
+mod RangeSteps
+mod RowForms
+mod Viewed
+mod Walks

@@ -1,0 +1,13 @@
+use Rattle.std.proofs.Common.{◌≡◌, length}
+use Rattle.std.specs.List.{find}
+use Rattle.asm_model.specs.Places.{standings}
+use Rattle.asm_model.specs.Refused.{is_bad}
+use Rattle.asm_places.specs.Found.{number_of, first_line}
+use Rattle.asm_places.specs.Spots.{of_end}
+use Rattle.asm_places.proofs.forms.first_bad.Given as goal
+
+abbrev pub invariant-loop-first : goal.invariant-loop-first
+invariant-loop-first l = number_of (find is_bad (standings (of_end l.ended) l.rest)) ≡ first_line is_bad l.sources
+
+abbrev pub decreases-loop-first : goal.decreases-loop-first
+decreases-loop-first l = length l.rest

@@ -1,0 +1,2 @@
+mod DeckOfSource
+mod TextAssembled

@@ -1,0 +1,2 @@
+pub mod AssembledSource
+pub mod LoadedDeck

@@ -1,0 +1,10 @@
+pub mod Marks
+pub mod Decimals
+pub mod Commas
+pub mod Readings
+pub mod Operands
+pub mod Fields
+pub mod Names
+pub mod Lines
+pub mod Assembled
+pub mod Sources
