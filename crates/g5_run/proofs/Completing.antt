@@ -20,6 +20,8 @@ use Rattle.g5_run.specs.Judges.{AuditEnds}
 use Rattle.g5_run.specs.Leaving.{Beside}
 use Rattle.g5_run.specs.Shows.{DisEnds}
 use Rattle.g5_run.proofs.Accepted.{file_read, one_text}
+use Rattle.g5_run.proofs.AsmEnded.{asm_complete}
+use Rattle.g5_run.proofs.LinkEnded.{link_complete}
 use Rattle.g5_run.proofs.MadeWhole.{OrNoMemory, gen_complete, run_complete, session_complete}
 
 -- ---- a log that is migrated
@@ -158,10 +160,12 @@ command_complete (generate number turns) a b o p e f z status h ok nf lines =
     gen_complete number turns o p e f z.silicon status h.ends nf.out
 command_complete (migrate old new) a b o p e f z status h ok nf lines =
     migrate_complete old new a b o p e f status h.ends ok nf
-command_complete (assemble source deck) a b o p e f z status h ok nf lines = absurd ok
+command_complete (assemble source deck) a b o p e f z status h ok nf lines =
+    asm_complete source deck a b o p e f status h.ends ok nf
 command_complete (disassemble deck at count) a b o p e f z status h ok nf lines =
     dis_complete deck at count a b o p e f status h ok nf
-command_complete (link out decks) a b o p e f z status h ok nf lines = absurd ok
+command_complete (link out decks) a b o p e f z status h ok nf lines =
+    link_complete out decks a b o p e f status h.ends ok nf
 command_complete (save turns names file c) a b o p e f z status h ok nf lines = absurd ok
 command_complete (resume names) a b o p e f z status h ok nf lines = absurd ok
 command_complete (audit log) a b o p e f z status h ok nf lines =

@@ -15,6 +15,8 @@ use Rattle.g5_run.specs.Judges.{AuditEnds}
 use Rattle.g5_run.specs.Leaving.{Beside, SiliconAfter}
 use Rattle.g5_run.specs.Shows.{DisEnds}
 use Rattle.g5_run.specs.Holding.{Untouched}
+use Rattle.g5_run.proofs.AsmEnded.{asm_untouched}
+use Rattle.g5_run.proofs.LinkEnded.{link_untouched}
 
 -- ---- before an output is begun nothing is touched
 
@@ -187,10 +189,16 @@ command_untouched (Some (migrate old new)) a b o p e f z status h k = record {
   numbers = migrate_untouched old new a b e f status h.ends k;
   out = h.out;
 }
-command_untouched (Some (assemble source deck)) a b o p e f z status h k = absurd h
+command_untouched (Some (assemble source deck)) a b o p e f z status h k = record {
+  numbers = asm_untouched source deck a b e f status h.ends k;
+  out = h.out;
+}
 command_untouched (Some (disassemble deck at count)) a b o p e f z status h k =
     dis_untouched deck at count a b o p e f status h k
-command_untouched (Some (link out decks)) a b o p e f z status h k = absurd h
+command_untouched (Some (link out decks)) a b o p e f z status h k = record {
+  numbers = link_untouched out decks a b e f status h.ends k;
+  out = h.out;
+}
 command_untouched (Some (save turns names file c)) a b o p e f z status h k = absurd h
 command_untouched (Some (resume names)) a b o p e f z status h k = absurd h
 command_untouched (Some (audit log)) a b o p e f z status h k =

@@ -11,3 +11,6 @@ pub mod Ending
 pub mod Telling
 pub mod Summaries
 pub mod Failing
+pub mod PartsRead
+pub mod LinkEnded
+pub mod AsmEnded

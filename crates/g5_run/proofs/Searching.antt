@@ -16,6 +16,8 @@ use Rattle.g5_run.specs.Judges.{AuditEnds}
 use Rattle.g5_run.specs.Leaving.{Beside, SiliconAfter}
 use Rattle.g5_run.specs.Searching.{ComesAfterSearch, IsOfNoFile, ReadsFiles}
 use Rattle.g5_run.specs.Shows.{DisEnds}
+use Rattle.g5_run.proofs.AsmEnded.{asm_found}
+use Rattle.g5_run.proofs.LinkEnded.{link_found}
 
 -- ---- at a status that comes after the searches
 
@@ -140,10 +142,12 @@ command_found (debug names c) a b o p e f z status h r k =
 command_found (generate number turns) a b o p e f z status h r k = absurd r
 command_found (migrate old new) a b o p e f z status h r k =
     migrate_found old new a b e f status h.ends k
-command_found (assemble source deck) a b o p e f z status h r k = absurd h
+command_found (assemble source deck) a b o p e f z status h r k =
+    asm_found source deck a b e f status h.ends k
 command_found (disassemble deck at count) a b o p e f z status h r k =
     dis_found deck at count a b o p e f status h k
-command_found (link out decks) a b o p e f z status h r k = absurd h
+command_found (link out decks) a b o p e f z status h r k =
+    link_found out decks a b e f status h.ends k
 command_found (save turns names file c) a b o p e f z status h r k = absurd h
 command_found (resume names) a b o p e f z status h r k = absurd h
 command_found (audit log) a b o p e f z status h r k = audit_found log a b o p e f status h k
@@ -191,9 +195,9 @@ command_missing (Some (run names c)) a b o p e f z input h = h.1.0.because.found
 command_missing (Some (debug names c)) a b o p e f z input h = h.1.0.because.found
 command_missing (Some (generate number turns)) a b o p e f z input h = absurd h.ends
 command_missing (Some (migrate old new)) a b o p e f z input h = h.ends.0.1.1.found
-command_missing (Some (assemble source deck)) a b o p e f z input h = absurd h
+command_missing (Some (assemble source deck)) a b o p e f z input h = h.ends.0.1.1.found
 command_missing (Some (disassemble deck at count)) a b o p e f z input h = h.0.why.1.found
-command_missing (Some (link out decks)) a b o p e f z input h = absurd h
+command_missing (Some (link out decks)) a b o p e f z input h = h.ends.0.1.finds.found
 command_missing (Some (save turns names file c)) a b o p e f z input h = absurd h
 command_missing (Some (resume names)) a b o p e f z input h = absurd h
 command_missing (Some (audit log)) a b o p e f z input h = h.0.why.1.found

@@ -3,7 +3,7 @@ use Rattle.std.proofs.Common.{◌≡◌, ℕ, ◌≤◌, Bool, true, false, List
 use Rattle.std.specs.Prelude.{◌==◌, codes, option_and_then}
 use Rattle.g5_outside.specs.Views.{ShelfView, SinkView}
 use Rattle.g5_words.specs.Ranges.{IsInLimits}
-use Rattle.program_model.specs.Commands.{Command, JobNames, SessionNames, audit, command, debug, disassemble, generate, migrate, run}
+use Rattle.program_model.specs.Commands.{Command, JobNames, SessionNames, assemble, audit, command, debug, disassemble, generate, link, migrate, run}
 use Rattle.program_model.specs.Given.{Text}
 use Rattle.program_model.specs.Inputs.{input_name}
 use Rattle.program_model.specs.Statuses.{line_of}
@@ -14,12 +14,14 @@ use Rattle.run_model.specs.declared.outputs.Counts.{Counts}
 use Rattle.run_model.specs.Texts.{report}
 use Rattle.status_lines.specs.Says.{Says}
 use Rattle.g5_run.specs.Asked.{asked, if_built}
+use Rattle.g5_run.specs.Assembling.{AsmEnds}
 use Rattle.g5_run.specs.Conversing.{DebugEnds}
 use Rattle.g5_run.specs.Converts.{MigrateEnds}
 use Rattle.g5_run.specs.Ends.{CommandEnds, Ends, EndsWhole, JobEnds, Reports, SaysAlone}
 use Rattle.g5_run.specs.Generates.{GenEnds}
 use Rattle.g5_run.specs.Judges.{AuditEnds}
 use Rattle.g5_run.specs.Leaving.{Beside, SiliconAfter, status_by}
+use Rattle.g5_run.specs.Linking.{LinkEnds}
 use Rattle.g5_run.specs.Shows.{DisEnds}
 
 -- ---- a run that was made to its end is reported
@@ -137,6 +139,18 @@ migrate_ends ask old new a b o e f z status is h =
       said = says_no_memory (migrate old new) e f m.ends.1;
     }))
 
+pub asm_ends : (ask : Option Command) (source deck : Text) (a b : ShelfView) (o e f : SinkView)
+    (z : Beside) (status : Status) → ask ≡ Some (assemble source deck)
+    → AsmEnds source deck a b e f status → Ends ask a b o o e f z status
+asm_ends ask source deck a b o e f z status is h =
+    subst (λ q. Ends q a b o o e f z status) (sym is)
+    (command_ends (Some (assemble source deck)) a b o o e f z status
+    (record { out = refl; ends = h }) (λ u. u.ends.0.1)
+    (λ m. record {
+      untouched = record { numbers = m.ends.0.0; out = refl };
+      said = says_no_memory (assemble source deck) e f m.ends.1;
+    }))
+
 pub dis_ends : (ask : Option Command) (deck : Text) (at count : ℕ) (a b : ShelfView)
     (o p e f : SinkView) (z : Beside) (status : Status) → ask ≡ Some (disassemble deck at count)
     → DisEnds deck at count a b o p e f status → Ends ask a b o p e f z status
@@ -146,6 +160,18 @@ dis_ends ask deck at count a b o p e f z status is h =
     (λ m. record {
       untouched = record { numbers = m.0.numbers; out = m.0.out };
       said = says_no_memory (disassemble deck at count) e f m.1;
+    }))
+
+pub link_ends : (ask : Option Command) (out : Text) (decks : List Text) (a b : ShelfView)
+    (o e f : SinkView) (z : Beside) (status : Status) → ask ≡ Some (link out decks)
+    → LinkEnds out decks a b e f status → Ends ask a b o o e f z status
+link_ends ask out decks a b o e f z status is h =
+    subst (λ q. Ends q a b o o e f z status) (sym is)
+    (command_ends (Some (link out decks)) a b o o e f z status (record { out = refl; ends = h })
+    (λ u. u.ends.0.1)
+    (λ m. record {
+      untouched = record { numbers = m.ends.0.0; out = refl };
+      said = says_no_memory (link out decks) e f m.ends.1;
     }))
 
 pub audit_ends : (ask : Option Command) (log : Text) (a b : ShelfView) (o p e f : SinkView)

@@ -3,20 +3,23 @@ use Rattle.std.specs.Prelude.{◌≡◌, ◌⊎◌, ℕ, List, IsTrue, Ok}
 use Rattle.debug_command.specs.Preparing.{IsGiven}
 use Rattle.deck_commands.specs.Disassembles.{storage_size}
 use Rattle.deck_model.specs.Image.{Image, image}
+use Rattle.esa_asm.specs.AssembledSource.{assembled}
 use Rattle.g5_outside.specs.Causes.{Rose}
 use Rattle.g5_outside.specs.Views.{ShelfView, SinkView, SourceView}
 use Rattle.g5_reading.specs.Inputs.{IsIn}
 use Rattle.program_model.specs.Accepted.{Job}
-use Rattle.program_model.specs.Commands.{Command, JobNames, SessionNames, audit, debug, disassemble, generate, migrate, run}
+use Rattle.program_model.specs.Commands.{Command, JobNames, SessionNames, assemble, audit, debug, disassemble, generate, link, migrate, run}
 use Rattle.program_model.specs.Given.{Text}
 use Rattle.program_model.specs.Inputs.{limit}
 use Rattle.program_model.specs.declared.inputs.Input.{Input}
-use Rattle.program_model.specs.declared.inputs.Input.TheVariants.{Deck, Log}
+use Rattle.program_model.specs.declared.inputs.Input.TheVariants.{Deck, Log, Program}
 use Rattle.program_model.specs.declared.refusals.AuditRefusal.{AuditRefusal}
 use Rattle.program_model.specs.declared.status.Status.{Status}
 use Rattle.program_model.specs.declared.status.Status.TheVariants.{Done, CheckStopped, WriteFault, AuditNo}
+use Rattle.link_model.specs.Link.{link_of}
 use Rattle.run_model.specs.Migrate.{migrated}
 use Rattle.run_model.specs.declared.logs.Config.{Config}
+use Rattle.source_commands.specs.Parts.{AreParts}
 use Rattle.g5_run.specs.Accepting.{IsJob}
 
 -- the statuses at which no file was created and nothing written
@@ -79,13 +82,30 @@ pub record IsOldLog (name : Text) (shelf : ShelfView) : Type 0 where
   pub text : List ℕ
   pub migrates : migrated log ≡ Ok text
 
+-- it is a source that has a deck
+pub record IsAssemblable (name : Text) (shelf : ShelfView) : Type 0 where
+  pub text : List ℕ
+  pub file : IsToldFile name Program shelf text
+  pub deck : List ℕ
+  pub assembles : assembled text ≡ Ok deck
+
+-- they are told, within their limit together, and can be linked
+pub record IsLinkable (names : List Text) (shelf : ShelfView) : Type 0 where
+  pub told : IsTrue shelf.told
+  pub parts : List ℕ
+  pub read : AreParts names shelf parts
+  pub deck : List ℕ
+  pub links : link_of parts ≡ Ok deck
+
 -- all that a command reads is told, and nothing of it is refused
 abbrev pub IsAcceptedBy : Command → ShelfView → SourceView → Type 0
 IsAcceptedBy (run names c) shelf keys = (j : Job) × IsAccepted names c j shelf
 IsAcceptedBy (debug names c) shelf keys = (j : Job) × IsAcceptedSession names c j shelf keys
 IsAcceptedBy (generate number turns) shelf keys = Unit {0}
 IsAcceptedBy (migrate old new) shelf keys = IsOldLog old shelf
+IsAcceptedBy (assemble source deck) shelf keys = IsAssemblable source shelf
 IsAcceptedBy (disassemble deck at count) shelf keys = IsLoadable deck shelf
+IsAcceptedBy (link out decks) shelf keys = IsLinkable decks shelf
 IsAcceptedBy (audit log) shelf keys = (bytes : List ℕ) × IsToldFile log Log shelf bytes
 IsAcceptedBy other shelf keys = ⊥
 

@@ -7,7 +7,7 @@ use Rattle.g5_words.specs.Ranges.{IsInLimits}
 use Rattle.g5_writing.specs.Starts.{OnlyNames}
 use Rattle.machine_runs.specs.Whole.{pieces_by}
 use Rattle.program_model.specs.Accepted.{Job}
-use Rattle.program_model.specs.Commands.{Command, JobNames, audit, debug, disassemble, generate, migrate, run}
+use Rattle.program_model.specs.Commands.{Command, JobNames, assemble, audit, debug, disassemble, generate, link, migrate, run}
 use Rattle.program_model.specs.Inputs.{input_name}
 use Rattle.program_model.specs.Statuses.{line_of}
 use Rattle.program_model.specs.declared.status.Status.{Status}
@@ -23,11 +23,13 @@ use Rattle.silicon.specs.Tape.{tells as tells_tape}
 use Rattle.machine_runs.specs.Jobs.{LeavesSilicon, job_hands}
 use Rattle.status_lines.specs.Says.{Says}
 use Rattle.g5_run.specs.Accepting.{IsJob, IsRefused}
+use Rattle.g5_run.specs.Assembling.{MakesAssembled}
 use Rattle.g5_run.specs.Conversing.{DebugEnds}
 use Rattle.g5_run.specs.Converts.{Converts}
 use Rattle.g5_run.specs.Generates.{Generates}
 use Rattle.g5_run.specs.Judges.{AuditEnds}
 use Rattle.g5_run.specs.Leaving.{Beside, SiliconAfter, status_by}
+use Rattle.g5_run.specs.Linking.{MakesLinked}
 use Rattle.g5_run.specs.Shows.{DisEnds}
 use Rattle.g5_run.specs.Holding.{Holds, HasOutputs, Untouched}
 use Rattle.machine_runs.specs.RunTells.{RunTells, IsSound, state_after, turns}
@@ -121,8 +123,11 @@ CommandEnds (Some (debug names c)) a b o p e f z status =
 CommandEnds (Some (generate number turns)) a b o p e f z status =
     Generates number turns a b o p e f z.silicon status
 CommandEnds (Some (migrate old new)) a b o p e f z status = Converts old new a b o p e f status
+CommandEnds (Some (assemble source deck)) a b o p e f z status =
+    MakesAssembled source deck a b o p e f status
 CommandEnds (Some (disassemble deck at count)) a b o p e f z status =
     DisEnds deck at count a b o p e f status
+CommandEnds (Some (link out decks)) a b o p e f z status = MakesLinked out decks a b o p e f status
 CommandEnds (Some (audit log)) a b o p e f z status = AuditEnds log a b o p e f status
 CommandEnds (Some other) a b o p e f z status = ⊥
 CommandEnds None a b o p e f z status = ⊥

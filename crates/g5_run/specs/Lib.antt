@@ -4,6 +4,8 @@ pub mod Holding
 pub mod Leaving
 pub mod Generates
 pub mod Converts
+pub mod Linking
+pub mod Assembling
 pub mod Judges
 pub mod Conversing
 pub mod Shows

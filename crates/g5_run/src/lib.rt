@@ -1,9 +1,11 @@
 //! The top call: all that the program does for its words, over any files, streams and silicon.
 #![tactic(auto)]
 
+mod assembling;
 mod decks;
 mod generated;
 mod job;
+mod linking;
 mod logs;
 mod ready;
 mod session;

@@ -2,11 +2,13 @@
 ghost use Rattle.std.specs.Prelude.{◌≡◌, [], IfOk};
 ghost use Rattle.g5_outside.specs.MemoryShelves.{shelf_view};
 
+mod assembling;
 mod decks;
 mod failing_calls;
 mod faults;
 mod generated;
 mod groups;
+mod linking;
 mod logs;
 mod recovery;
 mod refusals;

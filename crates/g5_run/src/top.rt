@@ -16,9 +16,11 @@ ghost use Rattle.g5_run.specs.Holding.{Untouched};
 ghost use Rattle.g5_run.specs.LawfulLogs.{HasLawfulLog};
 ghost use Rattle.g5_run.specs.Searching.{ComesAfterSearch, IsOfNoFile, ReadsFiles};
 
+use crate::assembling::assemble_and_say;
 use crate::decks::disassemble_and_say;
 use crate::generated::generate_and_run;
 use crate::job::{Ending, run_job};
+use crate::linking::link_and_say;
 use crate::logs::{audit_and_say, migrate_and_say};
 use crate::session::converse_and_say;
 use crate::statuses::status_of;
@@ -71,12 +73,15 @@ enum Built<'a> {
     Debug(SessionNames<'a>, Config),
     Gen(u32, u32),
     Migrate(&'a str, &'a str),
+    Asm(&'a str, &'a str),
     Dis(&'a str, u32, u32),
+    Link(&'a str, &'a [&'a str]),
     Audit(&'a str),
 }
 
 // What a command asks for, if it is built.
-fn built_of<'a>(command: &Command<'a>) -> Option<Built<'a>>
+fn built_of<'a>(command: &'a Command<'a>) -> Option<Built<'a>>
+    ensures same { IfSome result (λ b. asked_by command.now ≡ built_as b) }
     ensures asked { if_built (asked_by command.now) ≡ option_map built_as result }
     ensures sound { IsSound command.now → IfSome result IsSoundly }
 {
@@ -85,13 +90,13 @@ fn built_of<'a>(command: &Command<'a>) -> Option<Built<'a>>
         Command::Debug { session, config } => Some(Built::Debug(*session, *config)),
         Command::Gen { number, turns } => Some(Built::Gen(*number, *turns)),
         Command::Migrate { old, new } => Some(Built::Migrate(old, new)),
-        Command::Asm { .. } => None,
+        Command::Asm { source, deck } => Some(Built::Asm(source, deck)),
         Command::Dis {
             deck,
             address,
             count,
         } => Some(Built::Dis(deck, *address, *count)),
-        Command::Link { .. } => None,
+        Command::Link { out, decks } => Some(Built::Link(out, decks)),
         Command::Save { .. } => None,
         Command::Resume(_) => None,
         Command::Audit { log } => Some(Built::Audit(log)),
@@ -140,9 +145,11 @@ fn obey<F: Shelf, I: Source, O: Sink, E: Sink, Z: Silicon>(
             generate_and_run(alloc, number, turns, out, err, silicon)
         }
         Some(Built::Migrate(old, new)) => migrate_and_say(alloc, old, new, shelf, err),
+        Some(Built::Asm(source, deck)) => assemble_and_say(alloc, source, deck, shelf, err),
         Some(Built::Dis(deck, address, count)) => {
             disassemble_and_say(alloc, deck, address, count, shelf, out, err)
         }
+        Some(Built::Link(out, decks)) => link_and_say(alloc, &command, out, decks, shelf, err),
         Some(Built::Audit(log)) => audit_and_say(alloc, log, shelf, out, err),
         None => {
             say(err, b"usage\n");

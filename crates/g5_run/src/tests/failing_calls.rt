@@ -1,4 +1,5 @@
 // Hosts that fail, hosts that are slow, and files that are full: each command, call by call.
+use super::assembling::SOURCE;
 use super::logs::OLD;
 use super::{DECK, Given, HEAD, Left, WORDS, shelf_of, words_of};
 use crate::{Status, g5_top};
@@ -61,6 +62,25 @@ const AUDIT: Asked<'_> = Asked {
     file: b"G5LOG 2 CPUS 1 SPARES 0 THRESHOLD 3\nEND 10 RETURNED 0\n",
     lines: b"",
 };
+
+const ASM_WORDS: &[&str] = &["asm", "D", "N"];
+
+const ASM: Asked<'_> = Asked {
+    words: ASM_WORDS,
+    file: SOURCE,
+    lines: b"",
+};
+
+const LINK_WORDS: &[&str] = &["link", "N", "D", "C"];
+
+const LINK: Asked<'_> = Asked {
+    words: LINK_WORDS,
+    file: &DECK,
+    lines: b"",
+};
+
+// The first bytes of a deck that is made: a card of type ESD.
+const SECTION_FRONT: [u8; 10] = [0x02, 0xC5, 0xE2, 0xC4, 0x40, 0x40, 0x40, 0x40, 0x40, 0x40];
 
 // What fails or falls short: which calls of the shelf, of the lines and of the output fail, how many
 // bytes a call moves at most, and how much room each file and the output have.
@@ -216,6 +236,8 @@ fn each_call_fails(rt: HostRuntime) -> Result<(), Fail> {
         (DIS, Place::Shelf, 4000, (3, 0)),
         (DIS, Place::Out, 4000, (0, 2)),
         (MIGRATE, Place::Shelf, 4000, (3, 2)),
+        (ASM, Place::Shelf, 4000, (3, 2)),
+        (LINK, Place::Shelf, 4000, (5, 2)),
         (AUDIT, Place::Shelf, 4000, (3, 0)),
         (AUDIT, Place::Out, 4000, (0, 1)),
     ];
@@ -229,7 +251,7 @@ fn each_call_fails(rt: HostRuntime) -> Result<(), Fail> {
 #[test]
 fn small_steps(rt: HostRuntime) -> Result<(), Fail> {
     let alloc = rt.alloc();
-    for asked in [RUN, DEBUG, GEN, DIS, MIGRATE, AUDIT] {
+    for asked in [RUN, DEBUG, GEN, DIS, MIGRATE, ASM, LINK, AUDIT] {
         let whole = run_on(alloc, &asked, &SOUND)?;
         assert_eq!(rt; whole.status, Status::Done);
         for step in [1, 2, 7] {
@@ -243,12 +265,14 @@ fn small_steps(rt: HostRuntime) -> Result<(), Fail> {
 // 'Row 2 with room 10', and so every command.
 #[test]
 fn little_room(rt: HostRuntime) -> Result<(), Fail> {
-    let cases: [(Asked<'_>, &[u8], &[u8]); 6] = [
+    let cases: [(Asked<'_>, &[u8], &[u8]); 8] = [
         (RUN, b"G5LOG 2 CP", b""),
         (DEBUG, b"", b"at 2\n00082"),
         (GEN, b"", b"turns 2\nco"),
         (DIS, b"", b"010000 LA "),
         (MIGRATE, b"G5LOG 2 CP", b""),
+        (ASM, &SECTION_FRONT, b""),
+        (LINK, &SECTION_FRONT, b""),
         (Asked { file: b"", ..AUDIT }, b"", b"no: BadLin"),
     ];
     for (asked, log, out) in cases {

@@ -7,7 +7,7 @@ use Rattle.g5_run.specs.Asked.{asked}
 use Rattle.g5_run.specs.Built.{IsSoundly, built_as}
 use Rattle.g5_run.specs.declared.top.Built.TheVariants as variant
 use Rattle.g5_run.proofs.KeysKept.{session_keys}
-use Rattle.g5_run.proofs.Telling.{asked_is, asked_none, audit_ends, debug_ends, dis_ends, gen_ends, migrate_ends, run_ends}
+use Rattle.g5_run.proofs.Telling.{asked_is, asked_none, asm_ends, audit_ends, debug_ends, dis_ends, gen_ends, link_ends, migrate_ends, run_ends}
 use Rattle.g5_run.proofs.top.obey.Goals as goal
 
 pub returns-in-Err-Usage-clause-ends : goal.returns-in-Err-Usage-clause-ends
@@ -96,6 +96,22 @@ returns-in-Some-Migrate-clause-ends g c =
     ∙ c.in-Some-Migrate.ensures.asked ∙ ap (λ b. Some (built_as b)) built)
     c.migrate_and_say.ensures
 
+pub returns-in-Some-Asm-clause-ends : goal.returns-in-Some-Asm-clause-ends
+returns-in-Some-Asm-clause-ends g c =
+    let words = map string_bytes c.args.words.now in
+    let built : c.in-Some-Asm.field-0 ≡ variant.Asm c.in-Some-Asm.source c.in-Some-Asm.deck =
+    cc c.in-Some-Asm.field-0-is in
+    asm_ends (asked words) c.in-Some-Asm.source.now c.in-Some-Asm.deck.now
+    (g.F.Shelf.seen c.args.shelf.now) (g.F.Shelf.seen c.assemble_and_say.new.shelf)
+    (g.O.Sink.seen c.args.out.now) (g.E.Sink.seen c.args.err.now)
+    (g.E.Sink.seen c.assemble_and_say.new.err)
+    (beside (silicon_after (g.Z.Silicon.seen c.args.silicon.now) (g.Z.Silicon.tape c.args.silicon.now)
+    (g.Z.Silicon.tape c.args.silicon.now)) (g.I.Source.seen c.args.keys.now)
+    (g.I.Source.seen c.args.keys.now)) c.assemble_and_say.result
+    (asked_is words (asked_by c.in-Ok.command) c.in-Ok.ensures.ok
+    ∙ c.in-Some-Asm.ensures.asked ∙ ap (λ b. Some (built_as b)) built)
+    c.assemble_and_say.ensures
+
 pub returns-in-Some-Dis-clause-ends : goal.returns-in-Some-Dis-clause-ends
 returns-in-Some-Dis-clause-ends g c =
     let words = map string_bytes c.args.words.now in
@@ -112,6 +128,40 @@ returns-in-Some-Dis-clause-ends g c =
     (asked_is words (asked_by c.in-Ok.command) c.in-Ok.ensures.ok
     ∙ c.in-Some-Dis.ensures.asked ∙ ap (λ b. Some (built_as b)) built)
     c.disassemble_and_say.ensures
+
+pub link_and_say-requires-clause-command : goal.link_and_say-requires-clause-command
+link_and_say-requires-clause-command g c =
+    let built : c.in-Some-Link.field-0 ≡ variant.Link c.in-Some-Link.out c.in-Some-Link.decks =
+    cc c.in-Some-Link.field-0-is in
+    c.in-Some-Link.ensures.same ∙ ap built_as built
+
+pub link_and_say-requires-clause-some : goal.link_and_say-requires-clause-some
+link_and_say-requires-clause-some g c =
+    let built : c.in-Some-Link.field-0 ≡ variant.Link c.in-Some-Link.out c.in-Some-Link.decks =
+    cc c.in-Some-Link.field-0-is in
+    (subst IsSoundly built (c.in-Some-Link.ensures.sound c.in-Ok.ensures.sound)).0
+
+pub link_and_say-requires-clause-few : goal.link_and_say-requires-clause-few
+link_and_say-requires-clause-few g c =
+    let built : c.in-Some-Link.field-0 ≡ variant.Link c.in-Some-Link.out c.in-Some-Link.decks =
+    cc c.in-Some-Link.field-0-is in
+    (subst IsSoundly built (c.in-Some-Link.ensures.sound c.in-Ok.ensures.sound)).1
+
+pub returns-in-Some-Link-clause-ends : goal.returns-in-Some-Link-clause-ends
+returns-in-Some-Link-clause-ends g c =
+    let words = map string_bytes c.args.words.now in
+    let built : c.in-Some-Link.field-0 ≡ variant.Link c.in-Some-Link.out c.in-Some-Link.decks =
+    cc c.in-Some-Link.field-0-is in
+    link_ends (asked words) c.in-Some-Link.out.now (map (λ d. d.now) c.in-Some-Link.decks.now)
+    (g.F.Shelf.seen c.args.shelf.now) (g.F.Shelf.seen c.link_and_say.new.shelf)
+    (g.O.Sink.seen c.args.out.now) (g.E.Sink.seen c.args.err.now)
+    (g.E.Sink.seen c.link_and_say.new.err)
+    (beside (silicon_after (g.Z.Silicon.seen c.args.silicon.now) (g.Z.Silicon.tape c.args.silicon.now)
+    (g.Z.Silicon.tape c.args.silicon.now)) (g.I.Source.seen c.args.keys.now)
+    (g.I.Source.seen c.args.keys.now)) c.link_and_say.result
+    (asked_is words (asked_by c.in-Ok.command) c.in-Ok.ensures.ok
+    ∙ c.in-Some-Link.ensures.asked ∙ ap (λ b. Some (built_as b)) built)
+    c.link_and_say.ensures
 
 pub returns-in-Some-Audit-clause-ends : goal.returns-in-Some-Audit-clause-ends
 returns-in-Some-Audit-clause-ends g c =
