@@ -3,3 +3,4 @@ pub mod Used
 pub mod Moved
 pub mod Units
 pub mod Covered
+pub mod Source

@@ -1,7 +1,8 @@
 // EDIT and EDIT AND MARK, whose source is tested as far as it is used.
 // Source: Principles of Operation, chapter on decimal instructions.
-ghost use Rattle.std.specs.Prelude.{◌≡◌, ◌≤◌, ◌<◌, [], length};
-ghost use Rattle.esa_model.specs.Edit.{answer, edited_pattern, state};
+ghost use Rattle.std.specs.Prelude.{◌≡◌, ◌≤◌, ◌<◌, ℕ, List, [], length};
+ghost use Rattle.esa_model.specs.Access.{bytes};
+ghost use Rattle.esa_model.specs.Edit.{answer, edited_pattern, state, SameUpTo};
 ghost use Rattle.esa_model.specs.Rows.Decimals.{with_mark as marked_by};
 ghost use Rattle.byte_rows.specs.Classes.{edit_ending, editing_effect, editing_operands};
 ghost use Rattle.row_frame.specs.Made.{IsInRange, Fits, Covers, IsQuiet};
@@ -12,8 +13,7 @@ use decimal_instr::{Edited, edit};
 use esa_model::machine::Registers;
 use operand_access::{Operands, gather, whole};
 use row_frame::{
-    Effect, Instruction, after, bytes_of, first_of, listed, refuse, second_of, store, two,
-    with_code,
+    Effect, Instruction, after, first_of, listed, refuse, second_of, store, two, with_code,
 };
 
 /// An edit; it uses no more source bytes than the pattern has.
@@ -25,8 +25,52 @@ fn edited(pattern: &mut [u8], source: &[u8]) -> Edited
     ensures pattern { pattern.new ≡ edited_pattern source.now pattern.old }
     ensures code { result.cc < 5 }
     ensures used { result.used ≤ length pattern.old }
+    ensures alike { (other : List ℕ) → SameUpTo (length pattern.old) source.now other
+        → (answer (state other pattern.old) ≡ result)
+        × (edited_pattern other pattern.old ≡ pattern.new) }
 {
     edit(pattern, source)
+}
+
+/// An edit of the digits from an effective address on, which are read into `source`.
+fn edit_by<V: View>(
+    r: &Registers,
+    view: &mut V,
+    at: u32,
+    pattern: &mut [u8],
+    source: &mut [u8],
+) -> Edited
+    requires some { 1 ≤ length pattern.old }
+    requires few { length pattern.old ≤ 256 }
+    requires room { length source.old ≡ length pattern.old }
+    ensures answer { result
+        ≡ answer (state (bytes r.now (V.bytes view.old) at 256) pattern.old) }
+    ensures pattern { pattern.new
+        ≡ edited_pattern (bytes r.now (V.bytes view.old) at 256) pattern.old }
+    ensures code { result.cc < 5 }
+    ensures used { result.used ≤ length pattern.old }
+    ensures same { V.bytes view.new ≡ V.bytes view.old }
+{
+    gather(r, view, at, source);
+    edited(pattern, source)
+}
+
+/// The same. Of the 256 bytes that might be used it reads as many as the pattern has, since it uses
+/// no more.
+fn edit_from<V: View>(r: &Registers, view: &mut V, at: u32, pattern: &mut [u8]) -> Edited
+    requires some { 1 ≤ length pattern.old }
+    requires few { length pattern.old ≤ 256 }
+    ensures answer { result
+        ≡ answer (state (bytes r.now (V.bytes view.old) at 256) pattern.old) }
+    ensures pattern { pattern.new
+        ≡ edited_pattern (bytes r.now (V.bytes view.old) at 256) pattern.old }
+    ensures code { result.cc < 5 }
+    ensures used { result.used ≤ length pattern.old }
+    ensures same { V.bytes view.new ≡ V.bytes view.old }
+{
+    let mut area = [0; 256];
+    let len = pattern.len();
+    edit_by(r, view, at, pattern, &mut area[..len])
 }
 
 /// The operands of an edit.
@@ -43,11 +87,10 @@ pub(crate) fn edit_operands<V: View>(
 {
     let d = &i.decoded;
     let len = u32::from(d.len) + 1;
-    let source = bytes_of(r, view, second_of(r, d), 256);
     let mut area = [0; 256];
     let pattern = &mut area[..len as usize];
     gather(r, view, first_of(r, d), pattern);
-    let e = edited(pattern, source.as_slice());
+    let e = edit_from(r, view, second_of(r, d), pattern);
     two(
         whole(first_of(r, d), len, true, true),
         whole(second_of(r, d), u32::from(e.used), true, false),
@@ -98,10 +141,9 @@ pub(crate) fn edit_effect<V: View>(
     ensures same { V.bytes view.new ≡ V.bytes view.old }
 {
     let d = &i.decoded;
-    let source = bytes_of(r, view, second_of(r, d), 256);
     let mut area = [0; 256];
     let pattern = &mut area[..usize::from(d.len) + 1];
     gather(r, view, first_of(r, d), pattern);
-    let e = edited(pattern, source.as_slice());
+    let e = edit_from(r, view, second_of(r, d), pattern);
     edit_end(marking, r, i.len, first_of(r, d), &e, pattern)
 }

@@ -7,7 +7,7 @@ use Rattle.run_model.specs.declared.logs.Entry.{Entry}
 use Rattle.run_model.specs.declared.logs.What.{What}
 use Rattle.run_model.specs.declared.logs.What.TheVariants as what
 use Rattle.run_model.specs.Cores.{entries_of, stamped, entry}
-use Rattle.core_turns.specs.declared.journal.Journal.{Journal}
+use Rattle.core_turns.specs.Journals.{Journal}
 use Rattle.core_turns.specs.Journals.{Logs}
 
 pub logs_none : (j : Journal) → Logs j j []
@@ -15,7 +15,7 @@ logs_none j = record {
   turn = refl;
   cpu = refl;
   core = refl;
-  entries = sym (append-nil j.entries.items);
+  entries = sym (append-nil j.entries);
 }
 
 pub logs_then : (a b c : Journal) (xs ys : List What) → Logs a b xs → Logs b c ys
@@ -25,11 +25,11 @@ logs_then a b c xs ys f g = record {
   cpu = g.cpu ∙ f.cpu;
   core = g.core ∙ f.core;
   entries =
-      let later : c.entries.items ≡ b.entries.items ++ stamped a.turn a.cpu.0 a.core.0 ys =
+      let later : c.entries ≡ b.entries ++ stamped a.turn a.cpu.0 a.core.0 ys =
       rw (sym f.turn, sym f.cpu, sym f.core) g.entries in
       later ∙ (ap (λ (es : List Entry). es ++ stamped a.turn a.cpu.0 a.core.0 ys) f.entries
-      ∙ (append_assoc a.entries.items _ _
-      ∙ ap (λ (es : List Entry). a.entries.items ++ es)
+      ∙ (append_assoc a.entries _ _
+      ∙ ap (λ (es : List Entry). a.entries ++ es)
       (sym (map-append (entry a.turn a.cpu.0 a.core.0) xs ys))));
 }
 

@@ -30,7 +30,7 @@ use Rattle.core_turns.specs.Meeting.{event_of, met_on_chip, next_cause, why_met}
 use Rattle.core_turns.specs.Recovered.{Recovers}
 use Rattle.core_turns.specs.declared.held.Held.{Held}
 use Rattle.core_turns.specs.declared.held.Held.TheVariants.{Running, Recovering, Lost, Taken}
-use Rattle.core_turns.specs.declared.held.Turned.{Turned}
+use Rattle.core_turns.specs.Made.{Made}
 use Rattle.core_turns.specs.declared.outcomes.Outcome.{Outcome}
 use Rattle.core_turns.specs.declared.outcomes.Outcome.TheVariants as outcome
 use Rattle.core_turns.proofs.Commits.{commit_runs, lost_stays, runs_again}
@@ -83,7 +83,7 @@ unfolding does
 does_is t s i x = refl
 
 pub leaves_of : (c : Config) (n : ℕ) (cpu : CpuNo) (h : Held) (z z2 : Chip)
-    (bytes bytes2 : List ℕ) (seen seen2 : Side) (p p2 : CorePool) (es : List Entry) (t : Turned)
+    (bytes bytes2 : List ℕ) (seen seen2 : Side) (p p2 : CorePool) (es : List Entry) (t : Made)
     (x : Model) → IsTurn c n cpu.0 h z z2 bytes bytes2 seen seen2 p p2 es t
     → IsBefore c n cpu h z bytes seen p x
     → Leaves z z2 x.fate (bits_then z c x cpu.0) (did z c x cpu.0) cpu.0
@@ -170,7 +170,7 @@ registers_after c n cpu (Lost q r) Taken o z bytes seen p x b e held again keeps
 registers_after c n cpu Taken h2 o z bytes seen p x b e held again keeps = absurd b.there
 
 pub followed : (c : Config) (n : ℕ) (cpu : CpuNo) (h : Held) (z z2 : Chip)
-    (bytes bytes2 : List ℕ) (seen seen2 : Side) (p p2 : CorePool) (es : List Entry) (t : Turned)
+    (bytes bytes2 : List ℕ) (seen seen2 : Side) (p p2 : CorePool) (es : List Entry) (t : Made)
     (x : Model) → IsTurn c n cpu.0 h z z2 bytes bytes2 seen seen2 p p2 es t
     → IsBefore c n cpu h z bytes seen p x
     → Followed c cpu z z2 bytes2 seen2 p2 es t x (turned z.lines c x (Turns cpu))

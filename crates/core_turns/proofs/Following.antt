@@ -27,7 +27,7 @@ use Rattle.core_turns.specs.Meeting.{Goes, IsRow, WaitsAs, event_of, next_cause,
 use Rattle.core_turns.specs.Recovered.{Recovers}
 use Rattle.core_turns.specs.declared.held.Held.{Held}
 use Rattle.core_turns.specs.declared.held.Held.TheVariants.{Running, Recovering, Lost, Taken}
-use Rattle.core_turns.specs.declared.held.Turned.{Turned}
+use Rattle.core_turns.specs.Made.{Made}
 use Rattle.core_turns.specs.declared.outcomes.Outcome.{Outcome}
 use Rattle.core_turns.specs.declared.outcomes.Outcome.TheVariants as outcome
 use Rattle.core_turns.proofs.Commits.{commit_runs}
@@ -99,7 +99,7 @@ IsRunning Taken = ⊥
 -- ---- a turn of a CPU: what is known of it over every silicon, with two exact units
 
 pub record IsTurn (c : Config) (n i : ℕ) (h : Held) (z z2 : Chip) (bytes bytes2 : List ℕ)
-    (seen seen2 : Side) (p p2 : CorePool) (es : List Entry) (t : Turned) : Type 0 where
+    (seen seen2 : Side) (p p2 : CorePool) (es : List Entry) (t : Made) : Type 0 where
   pub goes : (s : Cores) (w : Bool) → HeldBy h s i → WaitsAs h i seen w → SparesAre p s.spare
       → Goes c.threshold n i s w z (why_met z h t.outcome) es t.outcome t.held p2
   pub chip : TurnChanges c.threshold i h seen p (why_met z h t.outcome) t.held z z2
@@ -122,7 +122,7 @@ before_of c n cpu h z bytes seen p x b live = record {
 
 -- the row of the table, by the definitions
 pub row_of : (c : Config) (n : ℕ) (cpu : CpuNo) (h : Held) (z z2 : Chip) (bytes bytes2 : List ℕ)
-    (seen seen2 : Side) (p p2 : CorePool) (es : List Entry) (t : Turned) (x : Model)
+    (seen seen2 : Side) (p p2 : CorePool) (es : List Entry) (t : Made) (x : Model)
     → IsTurn c n cpu.0 h z z2 bytes bytes2 seen seen2 p p2 es t
     → IsBefore c n cpu h z bytes seen p x
     → IsRow n cpu.0 (x.fate.cores.core cpu.0) (did z c x cpu.0) es t.outcome t.held p2
@@ -180,7 +180,7 @@ sure_by (outcome.Spared j) a b z k ea eb h = tt
 sure_by outcome.Stopped a b z k ea eb h = tt
 
 pub gives_of : (c : Config) (n : ℕ) (cpu : CpuNo) (h : Held) (z z2 : Chip) (bytes bytes2 : List ℕ)
-    (seen seen2 : Side) (p p2 : CorePool) (es : List Entry) (t : Turned) (x : Model)
+    (seen seen2 : Side) (p p2 : CorePool) (es : List Entry) (t : Made) (x : Model)
     → IsTurn c n cpu.0 h z z2 bytes bytes2 seen seen2 p p2 es t
     → IsBefore c n cpu h z bytes seen p x
     → Gives x.machine cpu.0 h es t bytes2 seen2

@@ -21,8 +21,8 @@ use Rattle.sparing.specs.Pools.{lowest_number, put}
 use Rattle.twin_units.specs.Units.{due_beside}
 use Rattle.core_turns.specs.declared.held.Held.{Held}
 use Rattle.core_turns.specs.declared.held.Held.TheVariants.{Running, Recovering, Lost}
-use Rattle.core_turns.specs.declared.held.Turned.{Turned}
-use Rattle.core_turns.specs.declared.journal.Journal.{Journal}
+use Rattle.core_turns.specs.Made.{Made}
+use Rattle.core_turns.specs.Journals.{Journal}
 use Rattle.core_turns.specs.declared.outcomes.Outcome.{Outcome}
 use Rattle.core_turns.specs.declared.outcomes.Outcome.TheVariants as outcome
 use Rattle.core_turns.specs.Ends.{Quits}
@@ -37,10 +37,10 @@ use Rattle.core_turns.proofs.Table.{reads}
 -- ---- what a journal says, and how a turn ended
 
 pub told : (j j2 : Journal) (i c : ℕ) (whats : List What) → IsBlank j i c → Tells j j2 whats
-    → j2.entries.items ≡ stamped j.turn i c whats
+    → j2.entries ≡ stamped j.turn i c whats
 told j j2 i c whats b t = t ∙ rw (b.cpu, b.core) refl
 
-pub quits_as : (P : Held → Outcome → Type 0) (h : Held) (came : Outcome) (t : Turned)
+pub quits_as : (P : Held → Outcome → Type 0) (h : Held) (came : Outcome) (t : Made)
     → Quits h came t → P h came → P t.held t.outcome
 quits_as P h came t q p =
     subst (λ (x : Held). P x t.outcome) (sym q.holds)
@@ -67,7 +67,7 @@ goes_by t n i s w z why es came h p d is es_are event_is came_is held spares = r
 
 -- the core of the journal is the CPU's
 at_core : (j j2 : Journal) (i c d : ℕ) (whats : List What) → IsBlank j i c → Tells j j2 whats
-    → d ≡ c → j2.entries.items ≡ stamped j.turn i d whats
+    → d ≡ c → j2.entries ≡ stamped j.turn i d whats
 at_core j j2 i c d whats b t e =
     told j j2 i c whats b t ∙ ap (λ (q : ℕ). stamped j.turn i q whats) (sym e)
 
@@ -75,20 +75,20 @@ at_core j j2 i c d whats b t e =
 
 pub goes_idle : (t : ℕ) (j : Journal) (i : ℕ) (k : RunningCore) (side : Side) (p : CorePool)
     (z : Chip) → IsBlank j i k.core.0 → is_idle (due_beside k.registers i side) ≡ true
-    → TurnGoes t j.turn i (Running k) side p z j.entries.items outcome.Idle (Running k) p
+    → TurnGoes t j.turn i (Running k) side p z j.entries outcome.Idle (Running k) p
 goes_idle t j i k side p z b idles_now s w held waits spares =
     let why = why_met z (Running k) outcome.Idle in
-    subst (λ (v : Bool). Goes t j.turn i s v z why j.entries.items outcome.Idle (Running k) p)
+    subst (λ (v : Bool). Goes t j.turn i s v z why j.entries outcome.Idle (Running k) p)
     (sym (waits ∙ idles_now))
-    (goes_by t j.turn i s true z why j.entries.items outcome.Idle (Running k) p (idles s i)
+    (goes_by t j.turn i s true z why j.entries outcome.Idle (Running k) p (idles s i)
     (table.waited t s i z why held.0) b.entries refl refl held spares)
 
 pub goes_gone : (t : ℕ) (j : Journal) (i : ℕ) (c : CoreNo) (r : ℕ) (side : Side) (p : CorePool)
     (z : Chip) → IsBlank j i c.0
-    → TurnGoes t j.turn i (Lost c r) side p z j.entries.items outcome.Idle (Lost c r) p
+    → TurnGoes t j.turn i (Lost c r) side p z j.entries outcome.Idle (Lost c r) p
 goes_gone t j i c r side p z b s w held waits spares =
     let why = why_met z (Lost c r) outcome.Idle in
-    goes_by t j.turn i s w z why j.entries.items outcome.Idle (Lost c r) p (idles s i)
+    goes_by t j.turn i s w z why j.entries outcome.Idle (Lost c r) p (idles s i)
     (table.gone t s i (met_on_chip z w (s.core i) why) held.0) b.entries refl refl held spares
 
 -- ---- an attempt
@@ -98,9 +98,9 @@ pub goes_committed : (t : ℕ) (j j2 : Journal) (i : ℕ) (k k2 : RunningCore) (
     → is_idle (due_beside k.registers i side) ≡ false
     → scrub_reading z k.core.0 ≡ reads notes None → Tells j j2 (entries_of notes)
     → k2.core ≡ k.core → k2.retries ≡ 0
-    → TurnGoes t j.turn i (Running k) side p z j2.entries.items outcome.Committed (Running k2) p
+    → TurnGoes t j.turn i (Running k) side p z j2.entries outcome.Committed (Running k2) p
 goes_committed t j j2 i k k2 side p z notes b busy read tells core retries s w held waits spares =
-    let es = j2.entries.items in
+    let es = j2.entries in
     let there = subst (λ (c : ℕ). scrub_reading z c ≡ reads notes None) (sym held.1) read in
     subst (λ (v : Bool). Goes t j.turn i s v z None es outcome.Committed (Running k2) p)
     (sym (waits ∙ busy))
@@ -118,10 +118,10 @@ pub goes_failed : (t : ℕ) (j j2 : Journal) (i : ℕ) (k : RunningCore) (k2 : R
     → scrub_reading z k.core.0 ≡ reads notes None
     → Tells j j2 (entries_of notes ++ what.Fail why n ∷ [])
     → (k2.core ≡ k.core) × (k2.retries ≡ k.retries) × (n ≡ z.begun k.core.0)
-    → TurnGoes t j.turn i (Running k) side p z j2.entries.items (outcome.Failed why)
+    → TurnGoes t j.turn i (Running k) side p z j2.entries (outcome.Failed why)
     (Recovering k2) p
 goes_failed t j j2 i k k2 side p z notes why n b busy read tells keeps s w held waits spares =
-    let es = j2.entries.items in
+    let es = j2.entries in
     let there = subst (λ (c : ℕ). scrub_reading z c ≡ reads notes None) (sym held.1) read in
     let number : n ≡ z.begun (s.core i) = keeps.2 ∙ ap z.begun (sym held.1) in
     subst (λ (v : Bool). Goes t j.turn i s v z (Some why) es (outcome.Failed why)
@@ -149,10 +149,10 @@ pub goes_lost : (t : ℕ) (j j2 : Journal) (i : ℕ) (k : RunningCore) (c : Core
     → scrub_reading z k.core.0 ≡ reads notes (Some w)
     → Tells j j2 (entries_of notes ++ what.Uncorrectable w ∷ what.Fenced ∷ what.Stop ∷ [])
     → c ≡ k.core → q.spares ≡ p.spares
-    → TurnGoes t j.turn i (Running k) side p z j2.entries.items outcome.Stopped
+    → TurnGoes t j.turn i (Running k) side p z j2.entries outcome.Stopped
     (Lost c k.retries) q
 goes_lost t j j2 i k c side p q z notes w b busy read tells core same s v held waits spares =
-    let es = j2.entries.items in
+    let es = j2.entries in
     let why = why_met z (Running k) outcome.Stopped in
     let there = subst (λ (x : ℕ). scrub_reading z x ≡ reads notes (Some w)) (sym held.1) read in
     subst (λ (x : Bool). Goes t j.turn i s x z why es outcome.Stopped (Lost c k.retries) q)
@@ -170,10 +170,10 @@ pub goes_recovered : (t : ℕ) (j j2 : Journal) (i : ℕ) (k : RecoveringCore) (
     → k.retries < t → read_core z k.core.0 ≡ reads notes None
     → Tells j j2 (entries_of notes ++ what.Retry (k.retries + 1) ∷ [])
     → k2.core ≡ k.core → k2.retries ≡ k.retries + 1
-    → TurnGoes t j.turn i (Recovering k) side p z j2.entries.items
+    → TurnGoes t j.turn i (Recovering k) side p z j2.entries
     (outcome.Retried (k.retries + 1)) (Running k2) p
 goes_recovered t j j2 i k k2 side p z notes b below read tells core retries s w held waits spares =
-    let es = j2.entries.items in
+    let es = j2.entries in
     let why = why_met z (Recovering k) (outcome.Retried (k.retries + 1)) in
     let there = subst (λ (c : ℕ). read_core z c ≡ reads notes None) (sym held.1) read in
     let kept : k.retries + 1 ≡ s.retries i + 1 = ap (λ (r : ℕ). r + 1) (sym held.2) in
@@ -195,10 +195,10 @@ pub goes_unrecovered : (t : ℕ) (j j2 : Journal) (i : ℕ) (k : RecoveringCore)
     → k.retries < t → read_core z k.core.0 ≡ reads notes (Some w)
     → Tells j j2 (entries_of notes ++ what.Uncorrectable w ∷ what.Fenced ∷ what.Stop ∷ [])
     → c ≡ k.core → q.spares ≡ p.spares
-    → TurnGoes t j.turn i (Recovering k) side p z j2.entries.items outcome.Stopped
+    → TurnGoes t j.turn i (Recovering k) side p z j2.entries outcome.Stopped
     (Lost c k.retries) q
 goes_unrecovered t j j2 i k c side p q z notes w b below read tells core same s v held waits spares =
-    let es = j2.entries.items in
+    let es = j2.entries in
     let why = why_met z (Recovering k) outcome.Stopped in
     let there = subst (λ (x : ℕ). read_core z x ≡ reads notes (Some w)) (sym held.1) read in
     goes_by t j.turn i s v z why es outcome.Stopped (Lost c k.retries) q
@@ -215,10 +215,10 @@ pub goes_no_spare : (t : ℕ) (j j2 : Journal) (i : ℕ) (k : RecoveringCore) (c
     → None ≡ lowest_number spare_number p.spares
     → Tells j j2 (what.Fenced ∷ what.NoSpare ∷ what.Stop ∷ [])
     → c ≡ k.core → q.spares ≡ p.spares
-    → TurnGoes t j.turn i (Recovering k) side p z j2.entries.items outcome.Stopped
+    → TurnGoes t j.turn i (Recovering k) side p z j2.entries outcome.Stopped
     (Lost c k.retries) q
 goes_no_spare t j j2 i k c side p q z b past none tells core same s v held waits spares =
-    let es = j2.entries.items in
+    let es = j2.entries in
     let why = why_met z (Recovering k) outcome.Stopped in
     goes_by t j.turn i s v z why es outcome.Stopped (Lost c k.retries) q (no_spare s i)
     (table.none_left t s i z v why held.0 (omega (arith, past, held.2))
@@ -235,10 +235,10 @@ pub goes_handed : (t : ℕ) (j j2 : Journal) (i : ℕ) (k : RecoveringCore) (k2 
     → Tells j j2 (what.Fenced ∷ (entries_of notes ++ what.Spared x.core ∷ []))
     → k2.core ≡ x.core → k2.retries ≡ 0 → p.spares ≡ x ∷ q.spares
     → ((n : ℕ) → in_pool n p ≤ 1)
-    → TurnGoes t j.turn i (Recovering k) side p z j2.entries.items (outcome.Spared x.core)
+    → TurnGoes t j.turn i (Recovering k) side p z j2.entries (outcome.Spared x.core)
     (Running k2) q
 goes_handed t j j2 i k k2 x side p q z notes b past first read tells core retries taken once s w held waits spares =
-    let es = j2.entries.items in
+    let es = j2.entries in
     let why = why_met z (Recovering k) (outcome.Spared x.core) in
     let there = subst (λ (c : ℕ). read_core z c ≡ reads notes None) (sym held.1) read in
     goes_by t j.turn i s w z why es (outcome.Spared x.core) (Running k2) q
@@ -261,10 +261,10 @@ pub goes_not_handed : (t : ℕ) (j j2 : Journal) (i : ℕ) (k : RecoveringCore) 
     → Tells j j2 (what.Fenced ∷ (entries_of notes ++ what.Uncorrectable w ∷ what.Stop ∷ []))
     → c ≡ k.core → p.spares ≡ x ∷ q.spares → y.core ≡ x.core
     → r.spares ≡ put spare_number y q.spares
-    → TurnGoes t j.turn i (Recovering k) side p z j2.entries.items outcome.Stopped
+    → TurnGoes t j.turn i (Recovering k) side p z j2.entries outcome.Stopped
     (Lost c k.retries) r
 goes_not_handed t j j2 i k c x y side p q r z notes w b past first read tells core taken same back s v held waits spares =
-    let es = j2.entries.items in
+    let es = j2.entries in
     let why = why_met z (Recovering k) outcome.Stopped in
     let there = subst (λ (n : ℕ). read_core z n ≡ reads notes (Some w)) (sym held.1) read in
     goes_by t j.turn i s v z why es outcome.Stopped (Lost c k.retries) r

@@ -1,6 +1,6 @@
 -- What a turn of a CPU handed in to the silicon is what the definitions say, where the script is
 -- within the premise.
-use Rattle.std.proofs.Common.{◌≡◌, ℕ, ◌<◌, Bool, true, false, List, [], Option, Some, None, refl, sym, ap, ◌∙◌, subst}
+use Rattle.std.proofs.Common.{◌≡◌, ℕ, ◌<◌, Bool, true, false, List, [], Option, Some, refl, sym, ap, ◌∙◌, subst}
 use Rattle.std.specs.Prelude.{⊤}
 use Rattle.esa_model.specs.Line.{Side}
 use Rattle.esa_model.specs.Machine.{Machine}

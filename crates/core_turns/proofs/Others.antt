@@ -22,7 +22,7 @@ use Rattle.core_turns.specs.Places.{EachInOnePlace}
 use Rattle.core_turns.specs.Standing.{StandsAt}
 use Rattle.core_turns.specs.declared.held.Held.{Held}
 use Rattle.core_turns.specs.declared.held.Held.TheVariants.{Running, Recovering, Lost, Taken}
-use Rattle.core_turns.specs.declared.held.Turned.{Turned}
+use Rattle.core_turns.specs.Made.{Made}
 use Rattle.core_turns.proofs.Buses.{events_len}
 use Rattle.core_turns.proofs.Sums.{cores_apart, core_no_spare}
 use Rattle.core_turns.specs.Following.{Followed, bits_then, did}
@@ -59,7 +59,7 @@ unfolding turned
 begun_is z z2 c x cpu k e = e
 
 pub other_stands : (c : Config) (cpu : CpuNo) (z z2 : Chip) (bytes2 : List ℕ) (seen2 : Side)
-    (p p2 : CorePool) (es : List Entry) (t : Turned) (x : Model) (hs : List Held) (h g : Held)
+    (p p2 : CorePool) (es : List Entry) (t : Made) (x : Model) (hs : List Held) (h g : Held)
     (j : ℕ) → Followed c cpu z z2 bytes2 seen2 p2 es t x (turned z.lines c x (Turns cpu))
     → EachInOnePlace c hs p → SparesAre p x.fate.cores.spare
     → slice_get hs cpu.0 ≡ Some h → slice_get hs j ≡ Some g → StandsAt h z x cpu.0 → j ≢ cpu.0

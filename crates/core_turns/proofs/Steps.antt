@@ -24,7 +24,7 @@ use Rattle.core_states.specs.declared.cores.RecoveringCore.{RecoveringCore}
 use Rattle.twin_units.specs.Units.{IsAt, due_beside}
 use Rattle.core_turns.specs.declared.held.Held.{Held}
 use Rattle.core_turns.specs.declared.held.Held.TheVariants.{Running, Recovering, Lost}
-use Rattle.core_turns.specs.declared.held.Turned.{Turned}
+use Rattle.core_turns.specs.Made.{Made}
 use Rattle.core_turns.specs.declared.outcomes.Outcome.{Outcome}
 use Rattle.core_turns.specs.declared.outcomes.Outcome.TheVariants as outcome
 use Rattle.core_turns.specs.Ends.{Quits, idle_side, stopped_side}
@@ -45,7 +45,7 @@ none_read m m2 same = record {
   written = rw same.2 (omega arith);
 }
 
-gives_by : (m : Machine) (i : ℕ) (h h2 : Held) (es : List Entry) (t : Turned) (came : Outcome)
+gives_by : (m : Machine) (i : ℕ) (h h2 : Held) (es : List Entry) (t : Made) (came : Outcome)
     (e : Option Event) (bytes : List ℕ) (seen : Side) → Quits h2 came t → event_of i came ≡ e
     → (run m (events_of e)).storage ≡ bytes → side_of (run m (events_of e)) ≡ seen
     → tells_nothing_else es e ≡ tells_by m es e
@@ -71,14 +71,14 @@ gives_by m i h h2 es t came e bytes seen q is storage side tells own others same
           (none_read m (run m (events_of e)) same));
     }
 
-pub gives_idle : (i : ℕ) (k : RunningCore) (es : List Entry) (t : Turned) (bytes : List ℕ)
+pub gives_idle : (i : ℕ) (k : RunningCore) (es : List Entry) (t : Made) (bytes : List ℕ)
     (seen seen2 : Side) → Quits (Running k) outcome.Idle t → seen2 ≡ idle_side seen
     → TurnGives i (Running k) bytes seen es t bytes seen2
 gives_idle i k es t bytes seen seen2 q is m has sees =
     gives_by m i (Running k) (Running k) es t outcome.Idle (Some (event.Idle (cpu_no i))) bytes
     seen2 q refl sees.storage (ap idle_side sees.side ∙ sym is) refl has (λ j ne. refl) (refl, refl, refl)
 
-pub gives_gone : (i : ℕ) (c : CoreNo) (r : ℕ) (es : List Entry) (t : Turned) (bytes : List ℕ)
+pub gives_gone : (i : ℕ) (c : CoreNo) (r : ℕ) (es : List Entry) (t : Made) (bytes : List ℕ)
     (seen seen2 : Side) → Quits (Lost c r) outcome.Idle t → seen2 ≡ idle_side seen
     → TurnGives i (Lost c r) bytes seen es t bytes seen2
 gives_gone i c r es t bytes seen seen2 q is m has sees =
@@ -87,14 +87,14 @@ gives_gone i c r es t bytes seen seen2 q is m has sees =
 
 -- a running core is never left recovering with registers
 pub gives_failed : (i : ℕ) (k : RunningCore) (k2 : RecoveringCore) (why : Cause) (es : List Entry)
-    (t : Turned) (bytes bytes2 : List ℕ) (seen : Side)
+    (t : Made) (bytes bytes2 : List ℕ) (seen : Side)
     → Quits (Recovering k2) (outcome.Failed why) t → bytes2 ≡ bytes
     → TurnGives i (Running k) bytes seen es t bytes2 seen
 gives_failed i k k2 why es t bytes bytes2 seen q same m has sees =
     gives_by m i (Running k) (Recovering k2) es t (outcome.Failed why) None bytes2 seen q refl
     (sees.storage ∙ sym same) sees.side refl tt (λ j ne. refl) (refl, refl, refl)
 
-pub gives_lost : (i : ℕ) (k : RunningCore) (c : CoreNo) (r : ℕ) (es : List Entry) (t : Turned)
+pub gives_lost : (i : ℕ) (k : RunningCore) (c : CoreNo) (r : ℕ) (es : List Entry) (t : Made)
     (bytes bytes2 : List ℕ) (seen seen2 : Side) → Quits (Lost c r) outcome.Stopped t
     → bytes2 ≡ bytes → seen2 ≡ stopped_side i seen
     → TurnGives i (Running k) bytes seen es t bytes2 seen2
@@ -104,7 +104,7 @@ gives_lost i k c r es t bytes bytes2 seen seen2 q same is m has sees =
     (λ j ne. refl) (refl, refl, refl)
 
 pub gives_stopped : (i : ℕ) (k : RecoveringCore) (c : CoreNo) (r : ℕ) (es : List Entry)
-    (t : Turned) (bytes : List ℕ) (seen seen2 : Side) → Quits (Lost c r) outcome.Stopped t
+    (t : Made) (bytes : List ℕ) (seen seen2 : Side) → Quits (Lost c r) outcome.Stopped t
     → seen2 ≡ stopped_side i seen → TurnGives i (Recovering k) bytes seen es t bytes seen2
 gives_stopped i k c r es t bytes seen seen2 q is m has sees =
     gives_by m i (Recovering k) (Lost c r) es t outcome.Stopped (Some (event.Stop (cpu_no i)))
@@ -112,7 +112,7 @@ gives_stopped i k c r es t bytes seen seen2 q is m has sees =
     (λ j ne. refl) (refl, refl, refl)
 
 pub gives_again : (i : ℕ) (k : RecoveringCore) (k2 : RunningCore) (came : Outcome)
-    (es : List Entry) (t : Turned) (bytes : List ℕ) (seen : Side) → Quits (Running k2) came t
+    (es : List Entry) (t : Made) (bytes : List ℕ) (seen : Side) → Quits (Running k2) came t
     → event_of i came ≡ None → TurnGives i (Recovering k) bytes seen es t bytes seen
 gives_again i k k2 came es t bytes seen q none m has sees =
     gives_by m i (Recovering k) (Running k2) es t came None bytes seen q none sees.storage
@@ -203,7 +203,7 @@ carried_becomes m i r p bytes bytes2 seen seen2 own sees by =
       few = let n = read_few (read p) (length m.console) in omega (arith, n);
     }
 
-pub record Commits (k2 : RunningCore) (t : Turned) (p : List ℕ) (bytes bytes2 : List ℕ) : Type 0 where
+pub record Commits (k2 : RunningCore) (t : Made) (p : List ℕ) (bytes bytes2 : List ℕ) : Type 0 where
   pub holds : t.held ≡ Running k2
   pub registers : k2.registers ≡ (read p).registers
   pub outcome : t.outcome ≡ outcome.Committed
@@ -211,7 +211,7 @@ pub record Commits (k2 : RunningCore) (t : Turned) (p : List ℕ) (bytes bytes2 
   pub changed : t.written.changed.items ≡ changed_bytes bytes bytes2
   pub console : t.written.console.items ≡ console_out (read p)
 
-pub gives_committed : (i : ℕ) (k k2 : RunningCore) (es : List Entry) (t : Turned) (p : List ℕ)
+pub gives_committed : (i : ℕ) (k k2 : RunningCore) (es : List Entry) (t : Made) (p : List ℕ)
     (bytes bytes2 : List ℕ) (seen seen1 seen2 : Side)
     → is_idle (due_beside k.registers i seen) ≡ false
     → ((m : Machine) → IsAt m i k.registers bytes seen → idle m i ≡ false

@@ -19,7 +19,7 @@ use Rattle.core_turns.specs.Giving.{KeepsCount, SeenBy, told_of}
 use Rattle.core_turns.specs.Held.{CorePool, IsThere, SparesAre}
 use Rattle.core_turns.specs.Standing.{StandsAt}
 use Rattle.core_turns.specs.declared.held.Held.{Held}
-use Rattle.core_turns.specs.declared.held.Turned.{Turned}
+use Rattle.core_turns.specs.Made.{Made}
 
 -- the state before it
 pub record IsBefore (c : Config) (n : ℕ) (cpu : CpuNo) (h : Held) (z : Chip) (bytes : List ℕ)
@@ -60,7 +60,7 @@ registers_then m i d = (run m (events_of d.event)).registers i
 
 -- the state after it
 pub record Followed (c : Config) (cpu : CpuNo) (z z2 : Chip) (bytes2 : List ℕ) (seen2 : Side)
-    (p2 : CorePool) (es : List Entry) (t : Turned) (x y : Model) : Type 0 where
+    (p2 : CorePool) (es : List Entry) (t : Made) (x y : Model) : Type 0 where
   pub told : told_of cpu.0 es t ≡ tells z.lines c x (Turns cpu)
   pub at : StandsAt t.held z2 y cpu.0
   pub storage : y.machine.storage ≡ bytes2

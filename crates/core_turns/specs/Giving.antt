@@ -11,7 +11,7 @@ use Rattle.run_model.specs.Runs.{Told, events_of, tells_by}
 use Rattle.core_turns.specs.Meeting.{event_of}
 use Rattle.core_turns.specs.declared.held.Held.{Held}
 use Rattle.core_turns.specs.declared.held.Held.TheVariants.{Running, Recovering, Lost, Taken}
-use Rattle.core_turns.specs.declared.held.Turned.{Turned}
+use Rattle.core_turns.specs.Made.{Made}
 use Rattle.core_turns.specs.declared.outcomes.Outcome.{Outcome}
 use Rattle.core_turns.specs.declared.outcomes.Outcome.TheVariants.{Committed, Idle, Failed, Retried, Spared, Stopped}
 
@@ -29,7 +29,7 @@ pub record SeenBy (m : Machine) (i : ℕ) (bytes : List ℕ) (seen : Side) : Typ
   pub there : i < length m.bus
 
 -- what the turn tells
-abbrev pub told_of : ℕ → List Entry → Turned → Told
+abbrev pub told_of : ℕ → List Entry → Made → Told
 told_of i es t = record {
   entries = es;
   event = event_of i t.outcome;
@@ -59,7 +59,7 @@ pub record KeepsCount (m m2 : Machine) (out : List ℕ) : Type 0 where
 
 -- storage and side after the turn are those of that machine, what it tells is what is told of it,
 -- and so are the registers; those of other CPUs stay
-pub record Gives (m : Machine) (i : ℕ) (h : Held) (es : List Entry) (t : Turned)
+pub record Gives (m : Machine) (i : ℕ) (h : Held) (es : List Entry) (t : Made)
     (bytes : List ℕ) (seen : Side) : Type 0 where
   pub storage : (after_outcome m i t.outcome).storage ≡ bytes
   pub side : side_of (after_outcome m i t.outcome) ≡ seen
@@ -79,7 +79,7 @@ IsSureCommit (Spared k) a b z c = ⊤
 IsSureCommit Stopped a b z c = ⊤
 
 -- it is so of every machine that stands for what was held, and for storage and side
-abbrev pub TurnGives : ℕ → Held → List ℕ → Side → List Entry → Turned → List ℕ → Side → Type 0
+abbrev pub TurnGives : ℕ → Held → List ℕ → Side → List Entry → Made → List ℕ → Side → Type 0
 TurnGives i h bytes seen es t bytes2 seen2 = (m : Machine) → HasRegisters h m i
     → SeenBy m i bytes seen → Gives m i h es t bytes2 seen2
 

@@ -1,5 +1,6 @@
 pub mod Journals
 pub mod Held
+pub mod Made
 pub mod Places
 pub mod Meeting
 pub mod ChipAfter

@@ -4,39 +4,37 @@ ghost use Rattle.std.specs.Option.{option_map};
 ghost use Rattle.sparing.specs.Pools.{lowest_number, put};
 ghost use Rattle.core_turns.specs.Ends.{idle_side, stopped_side, Quits};
 ghost use Rattle.core_turns.specs.Held.{CorePool, spare_number};
+ghost use Rattle.core_turns.specs.Made.{made};
 ghost use Rattle.core_turns.specs.Places.{on, in_pool};
 ghost use Rattle.core_turns.specs.declared.held.Held.TheVariants as holding;
 
 use crate::clock::advance_clock;
 use crate::held::{Held, SparePool, Turned};
 use crate::outcomes::Outcome;
-use arrayvec::ArrayVec;
 use core_states::{FencedCore, SpareCore};
 use esa_model::machine::{CpuNo, Psw};
 use result_packet::{Side, Written};
 
 /// A turn that commits nothing.
-pub fn end_without_commit(held: Held, outcome: Outcome) -> Turned
-    ensures { Quits held outcome result }
+pub fn end_without_commit(held: Held, outcome: Outcome, written: &mut Written) -> Turned
+    ensures { Quits held outcome (made result written.new) }
 {
+    written.changed.clear();
+    written.console.clear();
     Turned {
         held,
         outcome,
         psw: Psw { w0: 0, w1: 0 },
-        written: Written {
-            changed: ArrayVec::new(),
-            console: ArrayVec::new(),
-        },
     }
 }
 
 /// An idle turn.
-pub fn end_idle(held: Held, side: &mut Side) -> Turned
-    ensures turned { Quits held Outcome.Idle result }
+pub fn end_idle(held: Held, side: &mut Side, written: &mut Written) -> Turned
+    ensures turned { Quits held Outcome.Idle (made result written.new) }
     ensures side { side.new ≡ idle_side side.old }
 {
     advance_clock(side);
-    end_without_commit(held, Outcome::Idle)
+    end_without_commit(held, Outcome::Idle, written)
 }
 
 /// A CPU is check-stopped.
@@ -73,9 +71,10 @@ pub fn end_stopped(
     cpu: CpuNo,
     side: &mut Side,
     pool: &mut SparePool,
+    written: &mut Written,
 ) -> Turned
     requires { (n : ℕ) → on f.core.0 n + in_pool n pool.old ≤ 1 }
-    ensures turned { Quits (holding.Lost f.core retries) Outcome.Stopped result }
+    ensures turned { Quits (holding.Lost f.core retries) Outcome.Stopped (made result written.new) }
     ensures side { side.new ≡ stopped_side cpu.0 side.old }
     ensures spares { pool.new.spares ≡ pool.old.spares }
     ensures moves { (n : ℕ) → in_pool n pool.new ≡ on f.core.0 n + in_pool n pool.old }
@@ -83,7 +82,7 @@ pub fn end_stopped(
     let core = f.core();
     check_stop(cpu, side);
     fence(f, pool);
-    end_without_commit(Held::Lost(core, retries), Outcome::Stopped)
+    end_without_commit(Held::Lost(core, retries), Outcome::Stopped, written)
 }
 
 /// The spare of the lowest number.

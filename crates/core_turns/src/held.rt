@@ -1,7 +1,6 @@
 use crate::outcomes::Outcome;
 use core_states::{FencedCore, RecoveringCore, RunningCore, SpareCore};
 use esa_model::machine::Psw;
-use result_packet::Written;
 use run_model::faults::CoreNo;
 use sparing::Pool;
 
@@ -19,12 +18,11 @@ pub enum Held {
     Taken,
 }
 
-/// What a turn leaves for its CPU, and what it tells beside its entries. Where nothing was committed
-/// the PSW has two zero words and nothing was written.
+/// What a turn leaves for its CPU, and what it tells beside its entries and what it wrote. Where
+/// nothing was committed the PSW has two zero words.
 #[derive(Drop)]
 pub struct Turned {
     pub held: Held,
     pub outcome: Outcome,
     pub psw: Psw,
-    pub written: Written,
 }

@@ -13,10 +13,10 @@ ghost use Rattle.run_model.specs.Runs.{Model, events_of, turned};
 ghost use Rattle.silicon.specs.Chip.{Chip};
 ghost use Rattle.core_turns.specs.Following.{Followed};
 ghost use Rattle.core_turns.specs.Held.{CorePool, HeldBy, SparesAre};
+ghost use Rattle.core_turns.specs.Made.{Made};
 ghost use Rattle.core_turns.specs.Places.{EachInOnePlace, in_pool, with_cpu};
 ghost use Rattle.core_turns.specs.Standing.{StandsAt};
 ghost use Rattle.core_turns.specs.declared.held.Held.{Held};
-ghost use Rattle.core_turns.specs.declared.held.Turned.{Turned};
 
 /// Where each core stands in one place, it stands at most once with a CPU and in the pool, and a turn
 /// of a CPU that takes no core from the two together, and adds none, keeps it so. No two CPUs that
@@ -42,7 +42,7 @@ pub fn cores_stand_in_one_place()
 /// for the one before; and an event leaves as many CPUs as there were.
 pub fn other_cpus_stand()
     ensures others { (c : Config) (cpu : CpuNo) (z z2 : Chip) (bytes2 : List ℕ) (seen2 : Side)
-        (p p2 : CorePool) (es : List Entry) (t : Turned) (x : Model) (hs : List Held)
+        (p p2 : CorePool) (es : List Entry) (t : Made) (x : Model) (hs : List Held)
         (h g : Held) (j : ℕ)
         → Followed c cpu z z2 bytes2 seen2 p2 es t x (turned z.lines c x (Turns cpu))
         → EachInOnePlace c hs p → SparesAre p x.fate.cores.spare

@@ -15,7 +15,7 @@ mod turning;
 
 pub use clock::advance_clock;
 pub use held::{Held, SparePool, Turned};
-pub use journal::Journal;
+pub use journal::Stamp;
 pub use laws::{cores_stand_in_one_place, other_cpus_stand};
 pub use outcomes::Outcome;
 pub use registers::are_registers;

@@ -4,7 +4,8 @@ ghost use Rattle.core_turns.specs.ChipAfter.{Rises, TurnChanges};
 ghost use Rattle.core_turns.specs.Giving.{TurnGives};
 ghost use Rattle.core_turns.specs.Handing.{IsWithoutAttempt};
 ghost use Rattle.core_turns.specs.Held.{IsThere, HoldsRegisters};
-ghost use Rattle.core_turns.specs.Journals.{IsBlank};
+ghost use Rattle.core_turns.specs.Journals.{IsBlank, noted};
+ghost use Rattle.core_turns.specs.Made.{made};
 ghost use Rattle.core_turns.specs.Meeting.{TurnGoes, why_met};
 ghost use Rattle.core_turns.specs.Places.{on, with_cpu, in_pool};
 ghost use Rattle.core_turns.specs.Recovered.{Recovers};
@@ -12,12 +13,14 @@ ghost use Rattle.core_turns.specs.declared.held.Held.TheVariants as holding;
 
 use crate::ends::{end_stopped, end_without_commit, leave, put_spare_back, take_spare};
 use crate::held::{Held, SparePool, Turned};
-use crate::journal::Journal;
+use crate::journal::Stamp;
 use crate::outcomes::Outcome;
 use crate::registers::are_registers;
+use arrayvec::ArrayVec;
 use core_states::{HandedOver, Notes, Recovered, RecoveringCore};
 use esa_model::machine::CpuNo;
-use result_packet::Side;
+use result_packet::{Side, Written};
+use run_model::logs::Entry;
 use silicon::Silicon;
 
 /// A retry, while there were fewer of them than the threshold; else the words of the core go to the
@@ -29,19 +32,21 @@ pub fn turn_recovering<Z: Silicon>(
     side: &mut Side,
     pool: &mut SparePool,
     z: &mut Z,
-    journal: &mut Journal,
+    stamp: Stamp,
+    entries: &mut ArrayVec<Entry, 44>,
+    written: &mut Written,
 ) -> Turned
-    requires blank { IsBlank journal.old cpu.0 k.core.0 }
+    requires blank { IsBlank (noted stamp entries.old.items) cpu.0 k.core.0 }
     requires small { threshold ≤ 15 }
     requires once { (n : ℕ) → on k.core.0 n + in_pool n pool.old ≤ 1 }
-    ensures goes { TurnGoes threshold journal.old.turn cpu.0 (holding.Recovering k) side.old pool.old
-        (Z.seen z.old) journal.new.entries.items result.outcome result.held pool.new }
+    ensures goes { TurnGoes threshold stamp.turn cpu.0 (holding.Recovering k) side.old pool.old
+        (Z.seen z.old) entries.new.items result.outcome result.held pool.new }
     ensures chip { TurnChanges threshold cpu.0 (holding.Recovering k) side.old pool.old
         (why_met (Z.seen z.old) (holding.Recovering k) result.outcome) result.held
         (Z.seen z.old) (Z.seen z.new) }
     ensures recovered { Recovers (holding.Recovering k) (Z.seen z.old) result.held }
     ensures gives { (bytes : List ℕ) → TurnGives cpu.0 (holding.Recovering k) bytes side.old
-        journal.new.entries.items result bytes side.new }
+        entries.new.items (made result written.new) bytes side.new }
     ensures quiet { IsWithoutAttempt result.outcome }
     ensures moves { (n : ℕ) → with_cpu n result.held + in_pool n pool.new
         ≡ on k.core.0 n + in_pool n pool.old }
@@ -49,12 +54,12 @@ pub fn turn_recovering<Z: Silicon>(
     ensures rises { Rises (Z.seen z.old) (Z.seen z.new) }
     ensures there { IsThere result.held }
     ensures widths { HoldsRegisters result.held }
-    ensures changed { result.written.changed.items ≡ [] }
+    ensures changed { written.new.changed.items ≡ [] }
 {
     if k.retries() < threshold {
-        recover(k, cpu, side, pool, z, journal)
+        recover(k, cpu, side, pool, z, stamp, entries, written)
     } else {
-        transfer(k, cpu, side, pool, z, journal)
+        transfer(k, cpu, side, pool, z, stamp, entries, written)
     }
 }
 
@@ -65,21 +70,23 @@ fn recover<Z: Silicon>(
     side: &mut Side,
     pool: &mut SparePool,
     z: &mut Z,
-    journal: &mut Journal,
+    stamp: Stamp,
+    entries: &mut ArrayVec<Entry, 44>,
+    written: &mut Written,
 ) -> Turned
-    requires blank { IsBlank journal.old cpu.0 k.core.0 }
+    requires blank { IsBlank (noted stamp entries.old.items) cpu.0 k.core.0 }
     requires few { k.retries < 15 }
     requires once { (n : ℕ) → on k.core.0 n + in_pool n pool.old ≤ 1 }
     ensures goes { (t : ℕ) → k.retries < t
-        → TurnGoes t journal.old.turn cpu.0 (holding.Recovering k) side.old pool.old
-        (Z.seen z.old) journal.new.entries.items result.outcome result.held pool.new }
+        → TurnGoes t stamp.turn cpu.0 (holding.Recovering k) side.old pool.old
+        (Z.seen z.old) entries.new.items result.outcome result.held pool.new }
     ensures chip { (t : ℕ) → k.retries < t
         → TurnChanges t cpu.0 (holding.Recovering k) side.old pool.old
         (why_met (Z.seen z.old) (holding.Recovering k) result.outcome) result.held
         (Z.seen z.old) (Z.seen z.new) }
     ensures recovered { Recovers (holding.Recovering k) (Z.seen z.old) result.held }
     ensures gives { (bytes : List ℕ) → TurnGives cpu.0 (holding.Recovering k) bytes side.old
-        journal.new.entries.items result bytes side.new }
+        entries.new.items (made result written.new) bytes side.new }
     ensures quiet { IsWithoutAttempt result.outcome }
     ensures moves { (n : ℕ) → with_cpu n result.held + in_pool n pool.new
         ≡ on k.core.0 n + in_pool n pool.old }
@@ -87,19 +94,19 @@ fn recover<Z: Silicon>(
     ensures rises { Rises (Z.seen z.old) (Z.seen z.new) }
     ensures there { IsThere result.held }
     ensures widths { HoldsRegisters result.held }
-    ensures changed { result.written.changed.items ≡ [] }
+    ensures changed { written.new.changed.items ≡ [] }
 {
     let retries = k.retries();
     let mut notes = Notes::new();
     match k.recover(z, &mut notes) {
         Recovered::Running(k) => {
             are_registers(k.registers());
-            journal.log_retry(notes.as_slice(), retries + 1);
-            end_without_commit(Held::Running(k), Outcome::Retried(retries + 1))
+            stamp.log_retry(entries, notes.as_slice(), retries + 1);
+            end_without_commit(Held::Running(k), Outcome::Retried(retries + 1), written)
         }
         Recovered::Lost(f, word) => {
-            journal.log_lost(notes.as_slice(), word);
-            end_stopped(f, retries, cpu, side, pool)
+            stamp.log_lost(entries, notes.as_slice(), word);
+            end_stopped(f, retries, cpu, side, pool, written)
         }
     }
 }
@@ -111,20 +118,22 @@ fn transfer<Z: Silicon>(
     side: &mut Side,
     pool: &mut SparePool,
     z: &mut Z,
-    journal: &mut Journal,
+    stamp: Stamp,
+    entries: &mut ArrayVec<Entry, 44>,
+    written: &mut Written,
 ) -> Turned
-    requires blank { IsBlank journal.old cpu.0 k.core.0 }
+    requires blank { IsBlank (noted stamp entries.old.items) cpu.0 k.core.0 }
     requires once { (n : ℕ) → on k.core.0 n + in_pool n pool.old ≤ 1 }
     ensures goes { (t : ℕ) → t ≤ k.retries
-        → TurnGoes t journal.old.turn cpu.0 (holding.Recovering k) side.old pool.old
-        (Z.seen z.old) journal.new.entries.items result.outcome result.held pool.new }
+        → TurnGoes t stamp.turn cpu.0 (holding.Recovering k) side.old pool.old
+        (Z.seen z.old) entries.new.items result.outcome result.held pool.new }
     ensures chip { (t : ℕ) → t ≤ k.retries
         → TurnChanges t cpu.0 (holding.Recovering k) side.old pool.old
         (why_met (Z.seen z.old) (holding.Recovering k) result.outcome) result.held
         (Z.seen z.old) (Z.seen z.new) }
     ensures recovered { Recovers (holding.Recovering k) (Z.seen z.old) result.held }
     ensures gives { (bytes : List ℕ) → TurnGives cpu.0 (holding.Recovering k) bytes side.old
-        journal.new.entries.items result bytes side.new }
+        entries.new.items (made result written.new) bytes side.new }
     ensures quiet { IsWithoutAttempt result.outcome }
     ensures moves { (n : ℕ) → with_cpu n result.held + in_pool n pool.new
         ≡ on k.core.0 n + in_pool n pool.old }
@@ -132,28 +141,28 @@ fn transfer<Z: Silicon>(
     ensures rises { Rises (Z.seen z.old) (Z.seen z.new) }
     ensures there { IsThere result.held }
     ensures widths { HoldsRegisters result.held }
-    ensures changed { result.written.changed.items ≡ [] }
+    ensures changed { written.new.changed.items ≡ [] }
 {
     let retries = k.retries();
     let mut notes = Notes::new();
     match take_spare(pool) {
         None => {
-            journal.log_no_spare();
-            end_stopped(k.give_up(), retries, cpu, side, pool)
+            stamp.log_no_spare(entries);
+            end_stopped(k.give_up(), retries, cpu, side, pool, written)
         }
         Some(spare) => {
             let number = spare.core();
             match k.hand_over(spare, z, &mut notes) {
                 HandedOver::Running(k, f) => {
                     are_registers(k.registers());
-                    journal.log_spared(notes.as_slice(), number);
+                    stamp.log_spared(entries, notes.as_slice(), number);
                     leave(f, pool);
-                    end_without_commit(Held::Running(k), Outcome::Spared(number))
+                    end_without_commit(Held::Running(k), Outcome::Spared(number), written)
                 }
                 HandedOver::Lost(f, spare, word) => {
-                    journal.log_not_handed(notes.as_slice(), word);
+                    stamp.log_not_handed(entries, notes.as_slice(), word);
                     put_spare_back(spare, pool);
-                    end_stopped(f, retries, cpu, side, pool)
+                    end_stopped(f, retries, cpu, side, pool, written)
                 }
             }
         }

@@ -5,7 +5,8 @@ ghost use Rattle.core_turns.specs.ChipAfter.{Rises, TurnChanges};
 ghost use Rattle.core_turns.specs.Giving.{IsSureCommit, StaysUnlessCommitted, TurnGives};
 ghost use Rattle.core_turns.specs.Handing.{AnswersDue, Finds, HandsIn, calls_of};
 ghost use Rattle.core_turns.specs.Held.{IsThere, HoldsRegisters};
-ghost use Rattle.core_turns.specs.Journals.{IsBlank};
+ghost use Rattle.core_turns.specs.Journals.{IsBlank, noted};
+ghost use Rattle.core_turns.specs.Made.{made};
 ghost use Rattle.core_turns.specs.Meeting.{TurnGoes, next_cause, why_met};
 ghost use Rattle.core_turns.specs.Places.{on, with_cpu, in_pool};
 ghost use Rattle.core_turns.specs.declared.held.Held.TheVariants as holding;
@@ -14,12 +15,14 @@ use crate::clock::advance_clock;
 use crate::ends::{end_idle, end_stopped, end_without_commit};
 use crate::held::{Held, SparePool, Turned};
 use crate::idling::is_waiting;
-use crate::journal::Journal;
+use crate::journal::Stamp;
 use crate::outcomes::Outcome;
 use crate::registers::are_registers;
+use arrayvec::ArrayVec;
 use core_states::{Attempt, Notes, RunningCore};
 use esa_model::machine::CpuNo;
-use result_packet::Side;
+use result_packet::{Side, Written};
+use run_model::logs::Entry;
 use seen_memory::Memory;
 use silicon::Silicon;
 use twin_units::ResultUnit;
@@ -36,16 +39,18 @@ pub fn turn_running<Z: Silicon, P: ResultUnit, Q: ResultUnit>(
     z: &mut Z,
     a: &mut P,
     b: &mut Q,
-    journal: &mut Journal,
+    stamp: Stamp,
+    entries: &mut ArrayVec<Entry, 44>,
+    written: &mut Written,
 ) -> Turned
     requires known { cpu.0 < 8 }
-    requires blank { IsBlank journal.old cpu.0 k.core.0 }
+    requires blank { IsBlank (noted stamp entries.old.items) cpu.0 k.core.0 }
     requires begun { (Z.seen z.old).begun k.core.0 < 2 ^ 64 - 1 }
     requires calls_a { (P.seen a.old).calls < 2 ^ 64 - 1 }
     requires calls_b { (Q.seen b.old).calls < 2 ^ 64 - 1 }
     requires once { (n : ℕ) → on k.core.0 n + in_pool n pool.old ≤ 1 }
-    ensures goes { (t : ℕ) → TurnGoes t journal.old.turn cpu.0 (holding.Running k) side.old pool.old
-        (Z.seen z.old) journal.new.entries.items result.outcome result.held pool.new }
+    ensures goes { (t : ℕ) → TurnGoes t stamp.turn cpu.0 (holding.Running k) side.old pool.old
+        (Z.seen z.old) entries.new.items result.outcome result.held pool.new }
     ensures chip { (t : ℕ) → TurnChanges t cpu.0 (holding.Running k) side.old pool.old
         (why_met (Z.seen z.old) (holding.Running k) result.outcome) result.held
         (Z.seen z.old) (Z.seen z.new) }
@@ -56,8 +61,8 @@ pub fn turn_running<Z: Silicon, P: ResultUnit, Q: ResultUnit>(
         ≡ next_cause (Z.seen z.old) k.core.0 }
     ensures gives { IsSureCommit result.outcome (P.seen a.old).exact (Q.seen b.old).exact
         (Z.seen z.old) k.core.0
-        → TurnGives cpu.0 (holding.Running k) memory.old.bytes side.old journal.new.entries.items
-        result memory.new.bytes side.new }
+        → TurnGives cpu.0 (holding.Running k) memory.old.bytes side.old entries.new.items
+        (made result written.new) memory.new.bytes side.new }
     ensures quiet { StaysUnlessCommitted result.outcome memory.old.bytes memory.new.bytes }
     ensures moves { (n : ℕ) → with_cpu n result.held + in_pool n pool.new
         ≡ on k.core.0 n + in_pool n pool.old }
@@ -74,38 +79,37 @@ pub fn turn_running<Z: Silicon, P: ResultUnit, Q: ResultUnit>(
     ensures rises { Rises (Z.seen z.old) (Z.seen z.new) }
     ensures there { IsThere result.held }
     ensures widths { HoldsRegisters result.held }
-    ensures stretches { length (stretches result.written.changed.items) ≤ 135 }
+    ensures stretches { length (stretches written.new.changed.items) ≤ 135 }
 {
     if is_waiting(k.registers(), cpu, side) {
         are_registers(k.registers());
-        return end_idle(Held::Running(k), side);
+        return end_idle(Held::Running(k), side, written);
     }
     let retries = k.retries();
     let mut notes = Notes::new();
     memory.lend_to(cpu, k.core());
     match k.attempt(cpu, memory, side, z, a, b, &mut notes) {
         Attempt::Committed(k, packet) => {
-            journal.log_notes(notes.as_slice());
+            stamp.log_notes(entries, notes.as_slice());
             let mut r = *k.registers();
-            let written = memory.carry_out(side, cpu, &mut r, &packet);
+            memory.carry_out(side, cpu, &mut r, &packet, written);
             advance_clock(side);
             are_registers(&r);
             Turned {
                 held: Held::Running(k.committed(r, z)),
                 outcome: Outcome::Committed,
                 psw: r.psw,
-                written,
             }
         }
         Attempt::Failed(k, why, attempt) => {
-            journal.log_failed(notes.as_slice(), why, attempt);
+            stamp.log_failed(entries, notes.as_slice(), why, attempt);
             memory.empty_cache();
-            end_without_commit(Held::Recovering(k), Outcome::Failed(why))
+            end_without_commit(Held::Recovering(k), Outcome::Failed(why), written)
         }
         Attempt::Lost(f, word) => {
-            journal.log_lost(notes.as_slice(), word);
+            stamp.log_lost(entries, notes.as_slice(), word);
             memory.empty_cache();
-            end_stopped(f, retries, cpu, side, pool)
+            end_stopped(f, retries, cpu, side, pool, written)
         }
     }
 }

@@ -4,12 +4,13 @@ ghost use Rattle.std.specs.Prelude.{◌≡◌, ℕ, ◌+◌, ◌≤◌, ◌<◌,
 ghost use Rattle.core_turns.specs.Held.{core_of};
 ghost use Rattle.core_turns.specs.Places.{on, with_cpu, in_pool};
 
-use crate::{Held, Journal, Outcome, SparePool, turn_held};
+use crate::{Held, Outcome, SparePool, Stamp, turn_held};
 use abs_storage::AbsStorage;
+use arrayvec::ArrayVec;
 use core_states::SpareCore;
 use esa_model::machine::{CpuNo, Psw, Registers, Request};
 use fault_script::parse;
-use result_packet::{Console, Side};
+use result_packet::{Console, Side, Written};
 use run_model::faults::{Cause, CoreNo, Mode};
 use run_model::logs::{Entry, What};
 use seen_memory::Memory;
@@ -105,7 +106,7 @@ fn woken(waits: bool, wrong: u128, z: &mut ScriptSilicon) -> Held
 struct Seen {
     held: Held,
     outcome: Outcome,
-    journal: Journal,
+    entries: ArrayVec<Entry, 44>,
     changed: usize,
 }
 
@@ -129,9 +130,18 @@ fn turn(held: Held, threshold: u8, p: &mut Parts) -> Option<Seen>
     if core.0 > 15 || p.z.begun(core) > 9 {
         return None;
     }
-    let mut journal = Journal::new(7, CpuNo(0), core);
+    let stamp = Stamp {
+        turn: 7,
+        cpu: CpuNo(0),
+        core,
+    };
+    let mut entries = ArrayVec::new();
     let mut a = PlainUnit::new();
     let mut b = PlainUnit::new();
+    let mut written = Written {
+        changed: ArrayVec::new(),
+        console: ArrayVec::new(),
+    };
     let turned = turn_held(
         held,
         CpuNo(0),
@@ -142,13 +152,15 @@ fn turn(held: Held, threshold: u8, p: &mut Parts) -> Option<Seen>
         &mut p.z,
         &mut a,
         &mut b,
-        &mut journal,
+        stamp,
+        &mut entries,
+        &mut written,
     );
     Some(Seen {
         held: turned.held,
         outcome: turned.outcome,
-        journal,
-        changed: turned.written.changed.len(),
+        entries,
+        changed: written.changed.len(),
     })
 }
 
@@ -193,7 +205,7 @@ fn first(
     let Some(s) = turn(held, 2, &mut p) else {
         return Ok(false);
     };
-    let told = are_told(s.journal.entries.as_slice(), whats);
+    let told = are_told(s.entries.as_slice(), whats);
     let changed = if outcome == Outcome::Committed { 1 } else { 0 };
     Ok(s.outcome == outcome && told && is_held(&s.held, mode, CoreNo(0), 0) && s.changed == changed)
 }
@@ -223,7 +235,7 @@ fn second(
     let Some(s) = turn(s.held, threshold, &mut p) else {
         return Ok(false);
     };
-    let told = are_told(s.journal.entries.as_slice(), whats);
+    let told = are_told(s.entries.as_slice(), whats);
     let alerted = p.side.bus.pending(CpuNo(1), Request::Malfunction(CpuNo(0)));
     Ok(
         s.outcome == outcome

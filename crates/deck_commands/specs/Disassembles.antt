@@ -4,6 +4,7 @@ use Rattle.std.specs.Prelude.{◌≡◌, ℕ, List, ◌++◌, take, Result, Ok, 
 use Rattle.asm_text.specs.Lines.{listing}
 use Rattle.deck_model.specs.Image.{Image, image}
 use Rattle.deck_model.specs.declared.decks.DeckRefusal.{DeckRefusal}
+use Rattle.deck_commands.specs.Statements.{ShowsStatements}
 use Rattle.g5_outside.specs.Causes.{Rose}
 use Rattle.g5_outside.specs.Views.{ShelfView, SinkView}
 use Rattle.g5_reading.specs.Inputs.{IsIn, IsUnreadInput}
@@ -21,7 +22,8 @@ abbrev pub HasBytes : Result Image DeckRefusal → List ℕ → Type 0
 HasBytes (Ok i) storage = storage ≡ i.bytes
 HasBytes (Err refusal) storage = ⊥
 
--- the lines are on the output, and no file was created
+-- the lines are on the output, and no file was created; each instruction is shown by a statement
+-- that assembles to it
 pub record Disassembles (name : List ℕ) (at count : ℕ) (a b : ShelfView) (o p : SinkView) :
     Type 0 where
   pub deck : List ℕ
@@ -29,6 +31,7 @@ pub record Disassembles (name : List ℕ) (at count : ℕ) (a b : ShelfView) (o 
   pub storage : List ℕ
   pub loaded : HasBytes (image storage_size deck) storage
   pub out : IsTrue o.told → p.taken ≡ o.taken ++ listing storage count at
+  pub statements : ShowsStatements storage
   pub numbers : b.numbers ≡ a.numbers
   pub found : b.found ≡ true
 

@@ -1,8 +1,9 @@
 // A deck's instructions, from its file to the output.
-ghost use Rattle.std.specs.Prelude.{◌≡◌, ◌≤◌, ◌*◌, ◌%◌, ◌^◌, length, IfErr, OnOk};
+ghost use Rattle.std.specs.Prelude.{◌≡◌, ℕ, ◌<◌, ◌≤◌, ◌*◌, ◌%◌, ◌^◌, length, slice_index, IfErr, OnOk};
 ghost use Rattle.asm_text.specs.Lines.{listing};
 ghost use Rattle.g5_writing.specs.Outputs.{AddsToSink};
 ghost use Rattle.deck_commands.specs.Disassembles.{Disassembles, FailsToDisassemble, storage_size};
+ghost use Rattle.deck_commands.specs.Statements.{ShowsStatements};
 
 use asm_text::dis_line;
 use g5_outside::{Failed, Shelf, Sink};
@@ -44,6 +45,18 @@ fn write_lines<O: Sink>(storage: &[u8], from: u32, count: u32, out: &mut O) -> R
     Ok(())
 }
 
+// A storage holds bytes. It does nothing.
+fn holds_bytes(storage: &[u8])
+    ensures { (k : ℕ) → slice_index storage.now k < 256 }
+{}
+
+// Each instruction of a storage is shown by a statement that assembles to it. It does nothing.
+fn shows_statements(storage: &[u8])
+    ensures { ShowsStatements storage.now }
+{
+    holds_bytes(storage);
+}
+
 /// Loads a deck into a storage of 16,384 KiB and writes `count` lines of it on the output, from an
 /// address on: the address and the instruction there. Fewer lines are written where one says that
 /// its bytes are outside the storage.
@@ -73,6 +86,7 @@ pub fn disassemble_file<F: Shelf, O: Sink>(
         Ok(loaded) => loaded,
         Err(status) => return Err(status),
     };
+    shows_statements(loaded.storage.bytes());
     match write_lines(loaded.storage.bytes(), address, count, out) {
         Ok(()) => Ok(()),
         Err(_) => Err(Status::WriteFault),

@@ -7,7 +7,7 @@ ghost use Rattle.run_model.specs.declared.schedules.Run.{Run};
 ghost use Rattle.g5_debugger.specs.Making.{MakesNext, MakesOne};
 
 use crate::places::{Place, next_turn};
-use run_loop::{Engine, count_turn};
+use run_loop::{Engine, Turn, count_turn};
 use run_model::outputs::Counts;
 use run_model::schedules::{Run, RunKind};
 use silicon::Silicon;
@@ -19,12 +19,13 @@ pub struct Reached {
     pub made: Counts,
 }
 
-// Makes one turn, before which so much was counted.
+// Makes one turn, before which so much was counted. It is told in `told`.
 fn make_one<E: Engine, Z: Silicon>(
     engine: &mut E,
     silicon: &mut Z,
     kind: RunKind,
     before: Counts,
+    told: &mut Turn,
 ) -> Counts
     requires ready { (E.seen engine.old (Z.seen silicon.old) (Z.tape silicon.old)).ready }
     requires fits { Fits (E.seen engine.old (Z.seen silicon.old) (Z.tape silicon.old)).config.cpus
@@ -35,8 +36,8 @@ fn make_one<E: Engine, Z: Silicon>(
         (E.seen engine.old (Z.seen silicon.old) (Z.tape silicon.old))
         (E.seen engine.new (Z.seen silicon.new) (Z.tape silicon.new)) }
 {
-    let turn = engine.turn(silicon, kind);
-    count_turn(before, &turn)
+    engine.turn(silicon, kind, told);
+    count_turn(before, told)
 }
 
 /// Makes the next so many turns of a schedule, or those that are left.
@@ -58,12 +59,13 @@ pub fn make_next<E: Engine, Z: Silicon>(
         (E.seen engine.old (Z.seen silicon.old) (Z.tape silicon.old))
         (E.seen engine.new (Z.seen silicon.new) (Z.tape silicon.new)) }
 {
+    let mut told = Turn::new();
     let mut reached = start;
     'turns: for turn in 0..count {
         let Some((kind, place)) = next_turn(runs, reached.place) else {
             return reached;
         };
-        let made = make_one(engine, silicon, kind, reached.made);
+        let made = make_one(engine, silicon, kind, reached.made, &mut told);
         reached = Reached { place, made };
     }
     reached

@@ -24,7 +24,7 @@ use Rattle.core_turns.specs.Meeting.{event_of}
 use Rattle.core_turns.specs.Places.{EachInOnePlace}
 use Rattle.core_turns.specs.Standing.{StandsAt}
 use Rattle.core_turns.specs.declared.held.Held.{Held}
-use Rattle.core_turns.specs.declared.held.Turned.{Turned}
+use Rattle.core_turns.specs.Made.{Made}
 use Rattle.core_turns.specs.declared.outcomes.Outcome.{Outcome}
 use Rattle.core_turns.specs.declared.outcomes.Outcome.TheVariants.{
   Committed,
@@ -69,7 +69,7 @@ tells_event m es (Some (event.Stop i)) = refl
 tells_event m es (Some (event.Key i)) = refl
 
 -- the event that the turn came to is that of the fate
-event_is : (c : Config) (cpu : CpuNo) (z : Chip) (es : List Entry) (t : Turned) (x : Model)
+event_is : (c : Config) (cpu : CpuNo) (z : Chip) (es : List Entry) (t : Made) (x : Model)
     → told_of cpu.0 es t ≡ tells z.lines c x (Turns cpu)
     → event_of cpu.0 t.outcome ≡ (did z c x cpu.0).event
 unfolding tells
@@ -114,7 +114,7 @@ counts_by (Spared j) i n s m left left2 out turns commits read written l l2 k =
 counts_by Stopped i n s m left left2 out turns commits read written l l2 k =
     record { turns = ap (λ q. q + 1) turns; commits = commits; read = read; written = written }
 
-pub counts_after : (m m2 : Machine) (cpu : CpuNo) (z z2 : Chip) (es : List Entry) (t : Turned)
+pub counts_after : (m m2 : Machine) (cpu : CpuNo) (z z2 : Chip) (es : List Entry) (t : Made)
     (x : Model) → StandsFor m z x
     → m2.counts ≡ counted_by t.outcome (min (length m.side.console - length m2.side.console) 256)
     (length t.written.console.items) m.counts
@@ -151,7 +151,7 @@ counts_after m m2 cpu z z2 es t x st put f =
 
 -- ---- the machine
 
-pub stands_after : (m m2 : Machine) (cpu : CpuNo) (z z2 : Chip) (es : List Entry) (t : Turned)
+pub stands_after : (m m2 : Machine) (cpu : CpuNo) (z z2 : Chip) (es : List Entry) (t : Made)
     (x : Model) (h : Held) → StandsFor m z x
     → slice_get m.cpus.items cpu.0 ≡ Some h → EachInOnePlace m.config m.cpus.items m.pool
     → m2.cpus.items ≡ slice_set m.cpus.items cpu.0 t.held

@@ -29,7 +29,8 @@ use Rattle.core_turns.specs.Meeting.{IsRow, TurnGoes, WaitsAs, event_of, met_on_
 use Rattle.core_turns.specs.Places.{EachInOnePlace}
 use Rattle.core_turns.specs.declared.held.Held.{Held}
 use Rattle.core_turns.specs.declared.held.Held.TheVariants.{Running, Recovering, Lost, Taken}
-use Rattle.core_turns.specs.declared.held.Turned.{Turned}
+use Rattle.core_turns.specs.Made.{Made}
+use Rattle.result_packet.specs.declared.written.Written.{Written}
 use Rattle.core_turns.specs.declared.outcomes.Outcome.{Outcome}
 use Rattle.core_turns.specs.declared.outcomes.Outcome.TheVariants as outcome
 use Rattle.core_turns.proofs.Following.{held_counted}
@@ -137,15 +138,15 @@ same_outline : (es es2 : List Entry) (e e2 : Option Event) → es ≡ es2 → e 
     → ◌≡◌ {A = Outline} (record { entries = es; event = e }) (record { entries = es2; event = e2 })
 same_outline es es2 e e2 p q = λ i. record { entries = p i; event = q i }
 
-pub obeys_of : (m m2 : Machine) (cpu : CpuNo) (z : Chip) (es : List Entry) (t : Turned)
-    (turn : Turn) (h : Held) (n read written : ℕ) (s : Cores) → StandsByMode m s
+pub obeys_of : (m m2 : Machine) (cpu : CpuNo) (z : Chip) (es : List Entry) (t : Made)
+    (turn : Turn) (w : Written) (h : Held) (n read written : ℕ) (s : Cores) → StandsByMode m s
     → slice_get m.cpus.items cpu.0 ≡ Some h → n ≡ m.counts.turns + 1
     → m2.cpus.items ≡ slice_set m.cpus.items cpu.0 t.held
     → m2.counts ≡ counted_by t.outcome read written m.counts
-    → told_by cpu.0 turn ≡ told_of cpu.0 es t
+    → told_by cpu.0 turn es w ≡ told_of cpu.0 es t
     → TurnGoes m.config.threshold n cpu.0 h m.side m.pool z es t.outcome t.held m2.pool
-    → Obeys m.config s (Turns cpu) (told_by cpu.0 turn) m2
-obeys_of m m2 cpu z es t turn h n read written s st got number put counts told goes =
+    → Obeys m.config s (Turns cpu) (told_by cpu.0 turn es w) m2
+obeys_of m m2 cpu z es t turn out h n read written s st got number put counts told goes =
     let i = cpu.0 in
     let w = waits_for h i m.side in
     let x = met_on_chip z w (s.core i) (why_met z h t.outcome) in
@@ -219,18 +220,18 @@ bounds_then : (ls : List Strike) (c : Config) (x : Model) (cpu : CpuNo) → cpu.
 unfolding turned
 bounds_then ls c x cpu known h = bounded_kept ls c (sight x.machine) x.fate (Turns cpu) known h
 
-pub follows_of : (m m2 : Machine) (cpu : CpuNo) (z z2 : Chip) (es : List Entry) (t : Turned)
-    (turn : Turn) (x : Model) (h : Held) → StandsFor m z x → BoundedCpus z.lines m.config x.fate
+pub follows_of : (m m2 : Machine) (cpu : CpuNo) (z z2 : Chip) (es : List Entry) (t : Made)
+    (turn : Turn) (w : Written) (x : Model) (h : Held) → StandsFor m z x → BoundedCpus z.lines m.config x.fate
     → cpu.0 < m.config.cpus → slice_get m.cpus.items cpu.0 ≡ Some h
     → EachInOnePlace m.config m.cpus.items m.pool
     → m2.cpus.items ≡ slice_set m.cpus.items cpu.0 t.held
     → m2.counts ≡ counted_by t.outcome (min (length m.side.console - length m2.side.console) 256)
     (length t.written.console.items) m.counts
-    → told_by cpu.0 turn ≡ told_of cpu.0 es t
+    → told_by cpu.0 turn es w ≡ told_of cpu.0 es t
     → Followed m.config cpu z z2 m2.memory.bytes m2.side m2.pool es t x
     (turned z.lines m.config x (Turns cpu))
-    → Follows z.lines m.config x (Turns cpu) (told_by cpu.0 turn) m2 z2
-follows_of m m2 cpu z z2 es t turn x h st bounded known got placed put counts told f = record {
+    → Follows z.lines m.config x (Turns cpu) (told_by cpu.0 turn es w) m2 z2
+follows_of m m2 cpu z z2 es t turn w x h st bounded known got placed put counts told f = record {
   told = told ∙ f.told;
   stands = stands_after m m2 cpu z z2 es t x h st got placed put
       (counts_after m m2 cpu z z2 es t x st counts f) f;

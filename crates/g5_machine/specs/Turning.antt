@@ -11,6 +11,7 @@ use Rattle.run_model.specs.declared.schedules.RunKind.{RunKind}
 use Rattle.run_model.specs.Cores.{Cores, Met, make}
 use Rattle.run_model.specs.Fate.{Sound}
 use Rattle.run_model.specs.Runs.{Model, Told, outline_of, tells, tells_nothing_else, turned}
+use Rattle.result_packet.specs.declared.written.Written.{Written}
 use Rattle.run_laws.specs.Bounds.{BoundedCpus}
 use Rattle.silicon.specs.Chip.{Chip}
 use Rattle.silicon.specs.Tape.{Tape, tells as tells_tape}
@@ -30,14 +31,14 @@ core_there (Some h) = core_of h
 abbrev pub core_at : List Held → ℕ → ℕ
 core_at cpus i = core_there (slice_get cpus i)
 
--- what a turn of CPU i tells
-abbrev pub told_by : ℕ → Turn → Told
-told_by i t = record {
-  entries = t.entries.items;
+-- what a turn of CPU i tells, with its entries and what it wrote
+abbrev pub told_by : ℕ → Turn → List Entry → Written → Told
+told_by i t es w = record {
+  entries = es;
   event = event_of i t.outcome;
   psw = t.psw;
-  changed = t.written.changed.items;
-  console = t.written.console.items;
+  changed = w.changed.items;
+  console = w.console.items;
 }
 
 -- what a turn that presses the interrupt key of a CPU tells

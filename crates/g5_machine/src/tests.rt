@@ -7,11 +7,13 @@ mod several;
 ghost use Rattle.std.specs.Prelude.{◌≡◌, ◌<◌, ◌*◌, ◌^◌, IsTrue, length};
 ghost use Rattle.g5_machine.specs.Fits.{IsFitting};
 
-use crate::{Machine, Turn};
+use crate::{Machine, Outcome};
 use abs_storage::AbsStorage;
+use arrayvec::ArrayVec;
 use deck_model::decks::Loaded;
 use esa_model::machine::{CpuNo, Psw};
 use fault_script::parse;
+use result_packet::Written;
 use run_model::faults::{Cause, CoreNo};
 use run_model::logs::{Config, Entry, What};
 use silicon::{ScriptSilicon, Silicon};
@@ -96,8 +98,17 @@ fn started(alloc: Global, config: Config, storage: AbsStorage, script: &[u8]) ->
     Ok(Plant { machine, z })
 }
 
+/// What a turn tells.
+#[derive(Drop)]
+struct Told {
+    outcome: Outcome,
+    psw: Psw,
+    entries: ArrayVec<Entry, 44>,
+    written: Written,
+}
+
 /// One turn of a CPU. `None` for a CPU that is not there, or after many turns.
-fn turn(p: &mut Plant, cpu: CpuNo) -> Option<Turn> {
+fn turn(p: &mut Plant, cpu: CpuNo) -> Option<Told> {
     if cpu.0 >= p.machine.cpus() || p.machine.turns() > 1000 {
         return None;
     }
@@ -105,9 +116,21 @@ fn turn(p: &mut Plant, cpu: CpuNo) -> Option<Turn> {
     if core.0 > 15 || p.z.begun(core) > 1000 {
         return None;
     }
-    let mut a = PlainUnit::new();
-    let mut b = PlainUnit::new();
-    Some(p.machine.turn(cpu, &mut p.z, &mut a, &mut b))
+    let (mut a, mut b) = (PlainUnit::new(), PlainUnit::new());
+    let mut entries = ArrayVec::new();
+    let mut written = Written {
+        changed: ArrayVec::new(),
+        console: ArrayVec::new(),
+    };
+    let turn = p
+        .machine
+        .turn(cpu, &mut p.z, &mut a, &mut b, &mut entries, &mut written);
+    Some(Told {
+        outcome: turn.outcome,
+        psw: turn.psw,
+        entries,
+        written,
+    })
 }
 
 fn return_core(p: &mut Plant, core: CoreNo) -> Option<Entry> {

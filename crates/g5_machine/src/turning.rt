@@ -14,10 +14,12 @@ ghost use Rattle.g5_machine.specs.Turning.{FollowsAll, HandsAll, Obeys, core_at,
 
 use crate::machine::Machine;
 use crate::turns::Turn;
-use core_turns::{Held, Journal, turn_held};
+use arrayvec::ArrayVec;
+use core_turns::{Held, Stamp, turn_held};
 use esa_model::machine::CpuNo;
-use result_packet::Side;
+use result_packet::{Side, Written};
 use run_model::faults::CoreNo;
+use run_model::logs::Entry;
 use silicon::Silicon;
 use std::mem;
 use twin_units::ResultUnit;
@@ -43,13 +45,16 @@ pub(crate) fn core_held(held: &Held) -> CoreNo
 
 impl Machine {
     /// One turn of a CPU: the event that is due there is tried on its core, or the core is
-    /// recovered. It takes no memory.
+    /// recovered. It takes no memory. Its entries in the log, and what it wrote, are put in place of
+    /// what the lists have; nothing was written where nothing was committed.
     pub fn turn<Z: Silicon, P: ResultUnit, Q: ResultUnit>(
         &mut self,
         cpu: CpuNo,
         z: &mut Z,
         a: &mut P,
         b: &mut Q,
+        entries: &mut ArrayVec<Entry, 44>,
+        written: &mut Written,
     ) -> Turn
         requires known { cpu.0 < self.old.config.cpus }
         requires room { self.old.counts.turns < 2 ^ 48 }
@@ -58,16 +63,16 @@ impl Machine {
         requires calls_b { (Q.seen b.old).calls < 2 ^ 64 - 1 }
         ensures follows { IsTrue (P.seen a.old).exact → IsTrue (Q.seen b.old).exact
             → FollowsAll (Z.seen z.old).lines self.old.config self.old (Z.seen z.old)
-            (kinds.Turns cpu) (told_by cpu.0 result) self.new (Z.seen z.new) }
+            (kinds.Turns cpu) (told_by cpu.0 result entries.new.items written.new) self.new (Z.seen z.new) }
         ensures hands { IsTrue (P.seen a.old).exact → IsTrue (Q.seen b.old).exact
             → HandsAll (Z.seen z.old).lines self.old.config self.old (Z.seen z.old)
             (kinds.Turns cpu) (Z.tape z.old) (Z.tape z.new) }
         ensures obeys { (s : Cores) → StandsByMode self.old s
-            → Obeys self.old.config s (kinds.Turns cpu) (told_by cpu.0 result) self.new }
+            → Obeys self.old.config s (kinds.Turns cpu) (told_by cpu.0 result entries.new.items written.new) self.new }
         ensures goes { (h after : Held) → slice_get self.old.cpus.items cpu.0 ≡ Some h
             → slice_get self.new.cpus.items cpu.0 ≡ Some after
             → TurnGoes self.old.config.threshold (self.old.counts.turns + 1) cpu.0 h
-            self.old.side self.old.pool (Z.seen z.old) result.entries.items result.outcome after
+            self.old.side self.old.pool (Z.seen z.old) entries.new.items result.outcome after
             self.new.pool }
         ensures chip { (h after : Held) → slice_get self.old.cpus.items cpu.0 ≡ Some h
             → slice_get self.new.cpus.items cpu.0 ≡ Some after
@@ -94,10 +99,15 @@ impl Machine {
         ensures config { self.new.config ≡ self.old.config }
         ensures rises { Rises (Z.seen z.old) (Z.seen z.new) }
         ensures turns { self.new.counts.turns ≡ self.old.counts.turns + 1 }
-        ensures stretches { length (stretches result.written.changed.items) ≤ 135 }
+        ensures stretches { length (stretches written.new.changed.items) ≤ 135 }
     {
         let held = mem::replace(&mut self.cpus[cpu.0 as usize], Held::Taken);
-        let mut journal = Journal::new(self.counts.turns() + 1, cpu, core_held(&held));
+        let stamp = Stamp {
+            turn: self.counts.turns() + 1,
+            cpu,
+            core: core_held(&held),
+        };
+        entries.clear();
         let left = console_left(&self.side);
         let turned = turn_held(
             held,
@@ -109,17 +119,17 @@ impl Machine {
             z,
             a,
             b,
-            &mut journal,
+            stamp,
+            entries,
+            written,
         );
         self.cpus[cpu.0 as usize] = turned.held;
         let read = left.saturating_sub(console_left(&self.side)).min(256);
         self.counts
-            .count(turned.outcome, read, turned.written.console.len());
+            .count(turned.outcome, read, written.console.len());
         Turn {
             outcome: turned.outcome,
-            entries: journal.entries,
             psw: turned.psw,
-            written: turned.written,
         }
     }
 }

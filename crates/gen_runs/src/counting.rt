@@ -7,16 +7,17 @@ ghost use Rattle.run_model.specs.declared.schedules.Run.{Run};
 ghost use Rattle.gen_runs.specs.Counted.{Tallies, IsTally};
 
 use crate::tallies::{Tally, add_turn, nothing_counted};
-use run_loop::Engine;
+use run_loop::{Engine, Turn};
 use run_model::schedules::{Run, RunKind};
 use silicon::Silicon;
 
-// Makes a turn, after turns that were counted so.
+// Makes a turn, after turns that were counted so. It is told in `told`.
 fn count_one<E: Engine, Z: Silicon>(
     engine: &mut E,
     silicon: &mut Z,
     kind: RunKind,
     before: Tally,
+    told: &mut Turn,
 ) -> Tally
     requires ready { (E.seen engine.old (Z.seen silicon.old) (Z.tape silicon.old)).ready }
     requires fits { Fits (E.seen engine.old (Z.seen silicon.old) (Z.tape silicon.old)).config.cpus
@@ -29,16 +30,17 @@ fn count_one<E: Engine, Z: Silicon>(
         (E.seen engine.old (Z.seen silicon.old) (Z.tape silicon.old))
         (E.seen engine.new (Z.seen silicon.new) (Z.tape silicon.new)) }
 {
-    let turn = engine.turn(silicon, kind);
-    add_turn(before, &turn)
+    engine.turn(silicon, kind, told);
+    add_turn(before, told)
 }
 
-// Makes the turns of one run, after turns that were counted so.
+// Makes the turns of one run, after turns that were counted so. Each is told in `told`.
 fn count_run<E: Engine, Z: Silicon>(
     engine: &mut E,
     silicon: &mut Z,
     run: Run,
     start: Tally,
+    told: &mut Turn,
 ) -> Tally
     requires ready { (E.seen engine.old (Z.seen silicon.old) (Z.tape silicon.old)).ready }
     requires fits { Fits (E.seen engine.old (Z.seen silicon.old) (Z.tape silicon.old)).config.cpus
@@ -54,7 +56,7 @@ fn count_run<E: Engine, Z: Silicon>(
 {
     let mut sum = start;
     'turns: for turn in 0..run.count {
-        sum = count_one(engine, silicon, run.what, sum);
+        sum = count_one(engine, silicon, run.what, sum, told);
     }
     sum
 }
@@ -72,9 +74,10 @@ pub fn count_runs<E: Engine, Z: Silicon>(engine: &mut E, silicon: &mut Z, runs: 
         (E.seen engine.old (Z.seen silicon.old) (Z.tape silicon.old))
         (E.seen engine.new (Z.seen silicon.new) (Z.tape silicon.new)) }
 {
+    let mut told = Turn::new();
     let mut sum = nothing_counted();
     'runs: for run in runs {
-        sum = count_run(engine, silicon, *run, sum);
+        sum = count_run(engine, silicon, *run, sum, &mut told);
     }
     sum
 }

@@ -14,6 +14,7 @@ use Rattle.run_model.specs.declared.schedules.RunKind.TheVariants.{Turns, Key, R
 use Rattle.run_model.specs.Cores.{Cores, Met, Outline, belongs, does, is_fenced, make}
 use Rattle.run_model.specs.Places.{Apart}
 use Rattle.run_model.specs.Runs.{Model, Told, turned}
+use Rattle.result_packet.specs.declared.written.Written.{Written}
 use Rattle.run_laws.specs.Bounds.{BoundedCpus}
 use Rattle.run_laws.proofs.Standing.{apart_make}
 use Rattle.silicon.specs.Chip.{Chip}
@@ -180,16 +181,17 @@ calls_more : (n m : ℕ) (o : Outcome) → n ≡ m + calls_of o → n ≤ m + 1
 calls_more n m o is = let few = calls_few o in omega (arith, is, few)
 
 -- it fails by what its core met, which is the script's
-pub cpu_struck : (e e2 : TwinMachine) (z : Chip) (cpu : CpuNo) (turn : Turn) → IsReady e z
+pub cpu_struck : (e e2 : TwinMachine) (z : Chip) (cpu : CpuNo) (turn : Turn) (es : List Entry)
+    → IsReady e z
     → cpu.0 < e.machine.config.cpus → e2.machine.config ≡ e.machine.config
     → ((h after : Held) → slice_get e.machine.cpus.items cpu.0 ≡ Some h
     → slice_get e2.machine.cpus.items cpu.0 ≡ Some after
     → TurnGoes e.machine.config.threshold (e.machine.counts.turns + 1) cpu.0 h e.machine.side
-    e.machine.pool z turn.entries.items turn.outcome after e2.machine.pool)
+    e.machine.pool z es turn.outcome after e2.machine.pool)
     → ((h : Held) → slice_get e.machine.cpus.items cpu.0 ≡ Some h
     → why_met z h turn.outcome ≡ next_cause z (core_of h))
-    → FailsAsStruck z.lines turn.entries.items
-cpu_struck e e2 z cpu turn ready lt config goes why =
+    → FailsAsStruck z.lines es
+cpu_struck e e2 z cpu turn es ready lt config goes why =
     let m = e.machine in
     let m2 = e2.machine in
     let i : ℕ = cpu.0 in
@@ -211,17 +213,18 @@ cpu_struck e e2 z cpu turn ready lt config goes why =
     (does m.config.threshold s i x).whats same (does_met m.config.threshold x s i))
 
 pub cpu_says : (e e2 : TwinMachine) (z z2 : Chip) (v v2 : Tape) (cpu : CpuNo) (turn : Turn)
+    (es : List Entry) (w : Written)
     → Rises z z2
     → (plain e2.a).calls ≡ (plain e.a).calls + calls_of turn.outcome
     → (plain e2.b).calls ≡ (plain e.b).calls + calls_of turn.outcome
     → e2.machine.counts.turns ≡ e.machine.counts.turns + 1
     → e2.machine.config ≡ e.machine.config
     → ((s : Cores) → StandsByMode e.machine s
-    → MachineObeys e.machine.config s (Turns cpu) (told_by cpu.0 turn) e2.machine)
-    → FollowsAll z.lines e.machine.config e.machine z (Turns cpu) (told_by cpu.0 turn) e2.machine z2
+    → MachineObeys e.machine.config s (Turns cpu) (told_by cpu.0 turn es w) e2.machine)
+    → FollowsAll z.lines e.machine.config e.machine z (Turns cpu) (told_by cpu.0 turn es w) e2.machine z2
     → HandsAll z.lines e.machine.config e.machine z (Turns cpu) v v2
-    → Says (Turns cpu) e e2 z z2 v v2 (told_by cpu.0 turn)
-cpu_says e e2 z z2 v v2 cpu turn rises a b turns config obeys follows hands = record {
+    → Says (Turns cpu) e e2 z z2 v v2 (told_by cpu.0 turn es w)
+cpu_says e e2 z z2 v v2 cpu turn es w rises a b turns config obeys follows hands = record {
   lines = rises.lines;
   begun = rises.begun;
   calls_a = calls_more (plain e2.a).calls (plain e.a).calls turn.outcome a;

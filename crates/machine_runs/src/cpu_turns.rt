@@ -27,22 +27,20 @@ fn event_of(cpu: CpuNo, came: Outcome) -> Option<Event>
 }
 
 impl TwinMachine {
-    /// Makes a turn of a CPU.
-    pub(crate) fn turn_of_cpu<Z: Silicon>(&mut self, silicon: &mut Z, cpu: CpuNo) -> Turn
+    /// Makes a turn of a CPU, and tells it.
+    pub(crate) fn turn_of_cpu<Z: Silicon>(&mut self, silicon: &mut Z, cpu: CpuNo, told: &mut Turn)
         requires ready { IsReady self.old (Z.seen silicon.old) }
         requires known { cpu.0 < self.old.machine.config.cpus }
         requires room { self.old.machine.counts.turns < 2 ^ 47 }
         ensures gives { Gives (kinds.Turns cpu)
             (view_of self.old (Z.seen silicon.old) (Z.tape silicon.old))
-            (view_of self.new (Z.seen silicon.new) (Z.tape silicon.new)) (told_of result) }
-        ensures stretches { length (stretches result.written.changed.items) ≤ 135 }
+            (view_of self.new (Z.seen silicon.new) (Z.tape silicon.new)) (told_of told.new) }
+        ensures stretches { length (stretches told.new.written.changed.items) ≤ 135 }
     {
-        let turn = self.machine.turn(cpu, silicon, &mut self.a, &mut self.b);
-        Turn {
-            entries: turn.entries,
-            event: event_of(cpu, turn.outcome),
-            psw: turn.psw,
-            written: turn.written,
-        }
+        let (a, b) = (&mut self.a, &mut self.b);
+        let (entries, written) = (&mut told.entries, &mut told.written);
+        let turn = self.machine.turn(cpu, silicon, a, b, entries, written);
+        told.event = event_of(cpu, turn.outcome);
+        told.psw = turn.psw;
     }
 }

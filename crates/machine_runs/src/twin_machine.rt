@@ -51,11 +51,11 @@ impl Engine for TwinMachine {
 
     ghost seen = { λ e z t. view_of e z t };
 
-    fn turn<Z: Silicon>(&mut self, silicon: &mut Z, kind: RunKind) -> Turn {
+    fn turn<Z: Silicon>(&mut self, silicon: &mut Z, kind: RunKind, told: &mut Turn) {
         match kind {
-            RunKind::Turns(cpu) => self.turn_of_cpu(silicon, cpu),
-            RunKind::Key(cpu) => self.turn_of_key(cpu),
-            RunKind::Return(core) => self.turn_of_return(core),
+            RunKind::Turns(cpu) => self.turn_of_cpu(silicon, cpu, told),
+            RunKind::Key(cpu) => self.turn_of_key(cpu, told),
+            RunKind::Return(core) => self.turn_of_return(core, told),
         }
     }
 }

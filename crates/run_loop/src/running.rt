@@ -7,7 +7,7 @@ ghost use Rattle.run_model.specs.declared.schedules.Run.{Run};
 ghost use Rattle.run_loop.specs.Bounds.{Below};
 ghost use Rattle.run_loop.specs.Making.{MakesFrom};
 
-use crate::engine::Engine;
+use crate::engine::{Engine, Turn};
 use crate::turning::make_turn;
 use g5_outside::{Failed, Shelf, Sink};
 use g5_writing::OutputFiles;
@@ -15,7 +15,7 @@ use run_model::outputs::Counts;
 use run_model::schedules::Run;
 use silicon::Silicon;
 
-/// Makes the turns of one run, after turns that were counted so.
+/// Makes the turns of one run, after turns that were counted so. Each is told in `told`.
 pub fn make_run<E: Engine, Z: Silicon, F: Shelf, O: Sink>(
     engine: &mut E,
     silicon: &mut Z,
@@ -24,6 +24,7 @@ pub fn make_run<E: Engine, Z: Silicon, F: Shelf, O: Sink>(
     files: OutputFiles,
     run: Run,
     start: Counts,
+    told: &mut Turn,
 ) -> Result<Counts, Failed>
     requires ready { (E.seen engine.old (Z.seen silicon.old) (Z.tape silicon.old)).ready }
     requires fits { Fits (E.seen engine.old (Z.seen silicon.old) (Z.tape silicon.old)).config.cpus
@@ -43,7 +44,7 @@ pub fn make_run<E: Engine, Z: Silicon, F: Shelf, O: Sink>(
 {
     let mut sum = start;
     'turns: for turn in 0..run.count {
-        match make_turn(engine, silicon, shelf, out, files, run.what, sum) {
+        match make_turn(engine, silicon, shelf, out, files, run.what, sum, told) {
             Err(failed) => return Err(failed),
             Ok(after) => sum = after,
         }
@@ -80,9 +81,10 @@ pub fn make_runs<E: Engine, Z: Silicon, F: Shelf, O: Sink>(
         (E.seen engine.new (Z.seen silicon.new) (Z.tape silicon.new))
         (F.seen shelf.old) (F.seen shelf.new) (O.seen out.old) (O.seen out.new) result }
 {
+    let mut told = Turn::new();
     let mut sum = start;
     'runs: for run in runs {
-        match make_run(engine, silicon, shelf, out, files, *run, sum) {
+        match make_run(engine, silicon, shelf, out, files, *run, sum, &mut told) {
             Err(failed) => return Err(failed),
             Ok(after) => sum = after,
         }

@@ -129,9 +129,9 @@ impl Engine for Player {
       hands = λ x kind. [];
     } };
 
-    fn turn<Z: Silicon>(&mut self, _silicon: &mut Z, _kind: RunKind) -> Turn {
+    fn turn<Z: Silicon>(&mut self, _silicon: &mut Z, _kind: RunKind, told: &mut Turn) {
         self.made += 1;
-        played(self.made)
+        *told = played(self.made);
     }
 }
 
@@ -280,7 +280,17 @@ fn play_on<F: Shelf, O: Sink>(
     let mut player = Player { made: 4 };
     let mut silicon = ScriptSilicon::new();
     let kind = RunKind::Turns(CpuNo(1));
-    match make_turn(&mut player, &mut silicon, shelf, out, files, kind, start) {
+    let mut told = Turn::new();
+    match make_turn(
+        &mut player,
+        &mut silicon,
+        shelf,
+        out,
+        files,
+        kind,
+        start,
+        &mut told,
+    ) {
         Err(failed) => return Err(failed),
         Ok(_) => {}
     }
@@ -288,7 +298,16 @@ fn play_on<F: Shelf, O: Sink>(
         what: kind,
         count: 2,
     };
-    make_run(&mut player, &mut silicon, shelf, out, files, run, start)
+    make_run(
+        &mut player,
+        &mut silicon,
+        shelf,
+        out,
+        files,
+        run,
+        start,
+        &mut told,
+    )
 }
 
 #[test]

@@ -6,7 +6,7 @@ ghost use Rattle.run_loop.specs.Bounds.{Below};
 ghost use Rattle.run_loop.specs.Making.{MakesTurn};
 
 use crate::counting::count_turn;
-use crate::engine::Engine;
+use crate::engine::{Engine, Turn};
 use crate::writing::write_turn;
 use g5_outside::{Failed, Shelf, Sink};
 use g5_writing::OutputFiles;
@@ -14,7 +14,8 @@ use run_model::outputs::Counts;
 use run_model::schedules::RunKind;
 use silicon::Silicon;
 
-/// Makes one turn, writes what it tells, and counts it. `before` are the counts of the turns before it.
+/// Makes one turn, writes what it tells, and counts it. `before` are the counts of the turns before it;
+/// it is told in `told`.
 pub fn make_turn<E: Engine, Z: Silicon, F: Shelf, O: Sink>(
     engine: &mut E,
     silicon: &mut Z,
@@ -23,6 +24,7 @@ pub fn make_turn<E: Engine, Z: Silicon, F: Shelf, O: Sink>(
     files: OutputFiles,
     kind: RunKind,
     before: Counts,
+    told: &mut Turn,
 ) -> Result<Counts, Failed>
     requires ready { (E.seen engine.old (Z.seen silicon.old) (Z.tape silicon.old)).ready }
     requires fits { Fits (E.seen engine.old (Z.seen silicon.old) (Z.tape silicon.old)).config.cpus
@@ -39,9 +41,9 @@ pub fn make_turn<E: Engine, Z: Silicon, F: Shelf, O: Sink>(
         (E.seen engine.new (Z.seen silicon.new) (Z.tape silicon.new))
         (F.seen shelf.old) (F.seen shelf.new) (O.seen out.old) (O.seen out.new) result }
 {
-    let turn = engine.turn(silicon, kind);
-    match write_turn(shelf, out, files, before.commits, &turn) {
+    engine.turn(silicon, kind, told);
+    match write_turn(shelf, out, files, before.commits, told) {
         Err(failed) => Err(failed),
-        Ok(()) => Ok(count_turn(before, &turn)),
+        Ok(()) => Ok(count_turn(before, told)),
     }
 }

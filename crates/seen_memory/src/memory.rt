@@ -188,7 +188,7 @@ impl Memory {
     }
 
     /// Carries out what a packet says for a CPU with these registers. Its stores are held, and are
-    /// committed. The clock stays.
+    /// committed. The clock stays. What the event wrote is put in place of what `written` has.
     #[tactic(auto, using(result_packet::proofs::PiecesStored::stores_applied))]
     pub fn carry_out(
         &mut self,
@@ -196,7 +196,8 @@ impl Memory {
         cpu: CpuNo,
         r: &mut Registers,
         packet: &Packet,
-    ) -> Written
+        written: &mut Written,
+    )
         requires held { self.old.held
             ≡ stores_of r.old.prefix (length self.old.bytes) (read packet.now) }
         ensures registers { r.new ≡ (read packet.now).registers }
@@ -206,16 +207,15 @@ impl Memory {
         ensures bus { side.new.bus ≡ bus_left cpu.0 (read packet.now) side.old.bus }
         ensures console { side.new.console ≡ console_left (read packet.now) side.old.console }
         ensures clock { side.new.clock ≡ side.old.clock }
-        ensures written { result.console.items ≡ console_out (read packet.now) }
-        ensures changed { result.changed.items ≡ changed_bytes self.old.bytes self.new.bytes }
-        ensures stretches { length (stretches result.changed.items) ≤ 135 }
+        ensures written { written.new.console.items ≡ console_out (read packet.now) }
+        ensures changed { written.new.changed.items ≡ changed_bytes self.old.bytes self.new.bytes }
+        ensures stretches { length (stretches written.new.changed.items) ≤ 135 }
     {
         // the size tells the proof that the bytes are whole pages
         let _ = self.size();
         let mut reading = Reading { memory: self };
-        let written = packet.apply_rest(cpu, r, &mut reading, side);
+        *written = packet.apply_rest(cpu, r, &mut reading, side);
         self.commit();
-        written
     }
 }
 

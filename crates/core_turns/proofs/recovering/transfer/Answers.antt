@@ -9,7 +9,8 @@ use Rattle.core_turns.specs.declared.held.Held.TheVariants.{Running, Recovering,
 use Rattle.core_turns.specs.declared.outcomes.Outcome.{Outcome}
 use Rattle.core_turns.specs.declared.outcomes.Outcome.TheVariants as outcome
 use Rattle.core_turns.specs.Held.{CorePool}
-use Rattle.core_turns.specs.Journals.{Tells}
+use Rattle.core_turns.specs.Made.{made}
+use Rattle.core_turns.specs.Journals.{Tells, noted}
 use Rattle.core_turns.specs.Meeting.{TurnGoes}
 use Rattle.core_turns.specs.Places.{on, in_pool}
 use Rattle.core_turns.proofs.Chips.{chip_no_spare, chip_handed}
@@ -23,16 +24,16 @@ pooled_once c p h n = let a = h n in omega (arith, a)
 
 pub returns-in-None-clause-goes : goal.returns-in-None-clause-goes
 returns-in-None-clause-goes g c = λ t past.
-    let j = c.args.journal.now in
-    let j2 = c.log_no_spare.new.self in
+    let j = noted c.args.stamp c.args.entries.now.items in
+    let j2 = noted c.args.stamp c.log_no_spare.new.entries.items in
     let i = c.args.cpu.0 in
     let z = g.Z.Silicon.seen c.args.z.now in
     quits_as (λ (h : Held) (came : Outcome). TurnGoes t j.turn i (Recovering c.args.k)
-    c.args.side.now c.args.pool.now z j2.entries.items came h c.end_stopped.new.pool)
-    (Lost c.give_up.result.core c.retries-retries.result) outcome.Stopped c.end_stopped.result
+    c.args.side.now c.args.pool.now z j2.entries came h c.end_stopped.new.pool)
+    (Lost c.give_up.result.core c.retries-retries.result) outcome.Stopped (made c.end_stopped.result c.end_stopped.new.written)
     c.end_stopped.ensures.turned
     (subst (λ (r : ℕ). TurnGoes t j.turn i (Recovering c.args.k) c.args.side.now
-    c.args.pool.now z j2.entries.items outcome.Stopped (Lost c.give_up.result.core r)
+    c.args.pool.now z j2.entries outcome.Stopped (Lost c.give_up.result.core r)
     c.end_stopped.new.pool) (sym c.retries-retries.ensures)
     (goes_no_spare t j j2 i c.args.k c.give_up.result.core c.args.side.now c.args.pool.now
     c.end_stopped.new.pool z c.requires.blank past c.in-None.ensures.lowest
@@ -46,8 +47,8 @@ returns-in-None-clause-chip g c = λ t past.
 
 pub returns-in-Running-clause-goes : goal.returns-in-Running-clause-goes
 returns-in-Running-clause-goes g c = λ t past.
-    let j = c.args.journal.now in
-    let j2 = c.log_spared.new.self in
+    let j = noted c.args.stamp c.args.entries.now.items in
+    let j2 = noted c.args.stamp c.log_spared.new.entries.items in
     let i = c.args.cpu.0 in
     let z = g.Z.Silicon.seen c.args.z.now in
     let notes = c.hand_over.new.notes.items in
@@ -61,11 +62,11 @@ returns-in-Running-clause-goes g c = λ t past.
     (what.Fenced ∷ (entries_of ns ++ what.Spared n ∷ []))) c.as_slice.ensures.value
     c.log_spared.ensures) in
     quits_as (λ (h : Held) (came : Outcome). TurnGoes t j.turn i (Recovering c.args.k)
-    c.args.side.now c.args.pool.now z j2.entries.items came h c.leave.new.pool)
-    (Running c.in-Running.k) (outcome.Spared n) c.end_without_commit.result
+    c.args.side.now c.args.pool.now z j2.entries came h c.leave.new.pool)
+    (Running c.in-Running.k) (outcome.Spared n) (made c.end_without_commit.result c.end_without_commit.new.written)
     c.end_without_commit.ensures
     (subst (λ (d : CoreNo). TurnGoes t j.turn i (Recovering c.args.k) c.args.side.now
-    c.args.pool.now z j2.entries.items (outcome.Spared d) (Running c.in-Running.k)
+    c.args.pool.now z j2.entries (outcome.Spared d) (Running c.in-Running.k)
     c.leave.new.pool) (sym c.core-number.ensures)
     (goes_handed t j j2 i c.args.k c.in-Running.k x c.args.side.now c.args.pool.now
     c.leave.new.pool z notes c.requires.blank past c.in-Some.ensures.lowest
@@ -83,8 +84,8 @@ returns-in-Running-clause-chip g c = λ t past.
 
 pub returns-in-Lost-clause-goes : goal.returns-in-Lost-clause-goes
 returns-in-Lost-clause-goes g c = λ t past.
-    let j = c.args.journal.now in
-    let j2 = c.log_not_handed.new.self in
+    let j = noted c.args.stamp c.args.entries.now.items in
+    let j2 = noted c.args.stamp c.log_not_handed.new.entries.items in
     let i = c.args.cpu.0 in
     let z = g.Z.Silicon.seen c.args.z.now in
     let notes = c.hand_over.new.notes.items in
@@ -98,11 +99,11 @@ returns-in-Lost-clause-goes g c = λ t past.
     (what.Fenced ∷ (entries_of ns ++ what.Uncorrectable w ∷ what.Stop ∷ [])))
     c.as_slice-in-Lost.ensures.value c.log_not_handed.ensures in
     quits_as (λ (h : Held) (came : Outcome). TurnGoes t j.turn i (Recovering c.args.k)
-    c.args.side.now c.args.pool.now z j2.entries.items came h c.end_stopped-in-Lost.new.pool)
+    c.args.side.now c.args.pool.now z j2.entries came h c.end_stopped-in-Lost.new.pool)
     (Lost c.in-Lost.f.core c.retries-retries.result) outcome.Stopped
-    c.end_stopped-in-Lost.result c.end_stopped-in-Lost.ensures.turned
+    (made c.end_stopped-in-Lost.result c.end_stopped-in-Lost.new.written) c.end_stopped-in-Lost.ensures.turned
     (subst (λ (r : ℕ). TurnGoes t j.turn i (Recovering c.args.k) c.args.side.now
-    c.args.pool.now z j2.entries.items outcome.Stopped (Lost c.in-Lost.f.core r)
+    c.args.pool.now z j2.entries outcome.Stopped (Lost c.in-Lost.f.core r)
     c.end_stopped-in-Lost.new.pool) (sym c.retries-retries.ensures)
     (goes_not_handed t j j2 i c.args.k c.in-Lost.f.core x y c.args.side.now c.args.pool.now
     c.take_spare.new.pool c.end_stopped-in-Lost.new.pool z notes w c.requires.blank past

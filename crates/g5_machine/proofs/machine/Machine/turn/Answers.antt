@@ -22,6 +22,7 @@ use Rattle.std.proofs.lemmas.Option.{slice_get_read}
 use Rattle.core_turns.specs.ChipAfter.{TurnChanges}
 use Rattle.core_turns.specs.Handing.{Finds, HandsIn}
 use Rattle.core_turns.specs.Held.{core_of}
+use Rattle.core_turns.specs.Made.{made}
 use Rattle.core_turns.specs.Meeting.{next_cause, why_met}
 use Rattle.core_turns.specs.Places.{EachInOnePlace}
 use Rattle.core_turns.specs.Recovered.{Recovers}
@@ -47,7 +48,7 @@ invariant_of-self g c =
     let m = c.args.self.now in
     let cpus = m.cpus.items in
     let i = c.args.cpu.0 in
-    let t = c.turn_held-turned.result in
+    let t = made c.turn_held-turned.result c.turn_held-turned.new.written in
     let inside : i < length cpus = subst (λ (n : ℕ). i < n) m.fits.cpus c.requires.known in
     let got : slice_get cpus i ≡ Some c.replace-held.result =
     slice_get_read cpus _ i c.index_mut.result.now refl inside c.index_mut.ensures.value
@@ -70,20 +71,20 @@ returns-clause-follows g c = λ ea eb x st bounded sound.
     let i = c.args.cpu.0 in
     let z = g.Z.Silicon.seen c.args.z.now in
     let h = c.replace-held.result in
-    let t = c.turn_held-turned.result in
+    let t = made c.turn_held-turned.result c.turn_held-turned.new.written in
     let inside : i < length cpus = subst (λ (n : ℕ). i < n) m.fits.cpus c.requires.known in
     let got : slice_get cpus i ≡ Some h =
     slice_get_read cpus _ i c.index_mut.result.now refl inside c.index_mut.ensures.value
     ∙ ap (λ (q : Held). Some q) (sym c.replace-held.ensures.value) in
-    let number : c.new-journal.result.turn ≡ m.counts.turns + 1 =
-    c.new-journal.ensures.turn ∙ ap (λ n. n + 1) c.turns.ensures.turns in
+    let number : c.turns.result + 1 ≡ m.counts.turns + 1 =
+    ap (λ n. n + 1) c.turns.ensures.turns in
     let f = c.turn_held-turned.ensures.follows ea eb m.config x refl
-    (before_turn m c.args.cpu z x h c.new-journal.result.turn st bounded
+    (before_turn m c.args.cpu z x h (c.turns.result + 1) st bounded
     (g.met.Z.Silicon.formed c.args.z.now) c.requires.known m.fits.cpus got m.there number sound) in
     let read : c.min-read.result
     ≡ min (length m.side.console - length c.turn_held-turned.new.side.console) 256 =
     rw (sym c.console_left-left.ensures, sym c.console_left.ensures) (search rules) in
-    follows_of m _ c.args.cpu z _ _ t _ x h st bounded c.requires.known got m.placed
+    follows_of m _ c.args.cpu z _ _ t _ _ x h st bounded c.requires.known got m.placed
     (set_twice cpus i c.replace-held.new.dest t.held)
     (c.count.ensures.counts ∙ rw (read, c.len.ensures.value) refl) refl f
 
@@ -97,10 +98,10 @@ returns-clause-hands g c = λ ea eb x st bounded sound.
     let got : slice_get cpus i ≡ Some h =
     slice_get_read cpus _ i c.index_mut.result.now refl inside c.index_mut.ensures.value
     ∙ ap (λ (q : Held). Some q) (sym c.replace-held.ensures.value) in
-    let number : c.new-journal.result.turn ≡ m.counts.turns + 1 =
-    c.new-journal.ensures.turn ∙ ap (λ n. n + 1) c.turns.ensures.turns in
+    let number : c.turns.result + 1 ≡ m.counts.turns + 1 =
+    ap (λ n. n + 1) c.turns.ensures.turns in
     c.turn_held-turned.ensures.hands ea eb m.config x refl
-    (before_turn m c.args.cpu (g.Z.Silicon.seen c.args.z.now) x h c.new-journal.result.turn st
+    (before_turn m c.args.cpu (g.Z.Silicon.seen c.args.z.now) x h (c.turns.result + 1) st
     bounded (g.met.Z.Silicon.formed c.args.z.now) c.requires.known m.fits.cpus got m.there number
     sound)
 
@@ -110,14 +111,14 @@ returns-clause-obeys g c = λ s st.
     let cpus = m.cpus.items in
     let i = c.args.cpu.0 in
     let h = c.replace-held.result in
-    let t = c.turn_held-turned.result in
+    let t = made c.turn_held-turned.result c.turn_held-turned.new.written in
     let inside : i < length cpus = subst (λ (n : ℕ). i < n) m.fits.cpus c.requires.known in
     let got : slice_get cpus i ≡ Some h =
     slice_get_read cpus _ i c.index_mut.result.now refl inside c.index_mut.ensures.value
     ∙ ap (λ (q : Held). Some q) (sym c.replace-held.ensures.value) in
-    let number : c.new-journal.result.turn ≡ m.counts.turns + 1 =
-    c.new-journal.ensures.turn ∙ ap (λ n. n + 1) c.turns.ensures.turns in
-    obeys_of m _ c.args.cpu (g.Z.Silicon.seen c.args.z.now) _ t _ h _ c.min-read.result
+    let number : c.turns.result + 1 ≡ m.counts.turns + 1 =
+    ap (λ n. n + 1) c.turns.ensures.turns in
+    obeys_of m _ c.args.cpu (g.Z.Silicon.seen c.args.z.now) _ t _ _ h _ c.min-read.result
     c.len.result s st got number (set_twice cpus i c.replace-held.new.dest t.held)
     c.count.ensures.counts refl c.turn_held-turned.ensures.goes
 
@@ -127,13 +128,13 @@ returns-clause-goes g c = λ h after there now.
     let cpus = m.cpus.items in
     let i = c.args.cpu.0 in
     let was = c.replace-held.result in
-    let t = c.turn_held-turned.result in
+    let t = made c.turn_held-turned.result c.turn_held-turned.new.written in
     let inside : i < length cpus = subst (λ (n : ℕ). i < n) m.fits.cpus c.requires.known in
     let got : slice_get cpus i ≡ Some was =
     slice_get_read cpus _ i c.index_mut.result.now refl inside c.index_mut.ensures.value
     ∙ ap (λ (q : Held). Some q) (sym c.replace-held.ensures.value) in
-    let number : c.new-journal.result.turn ≡ m.counts.turns + 1 =
-    c.new-journal.ensures.turn ∙ ap (λ n. n + 1) c.turns.ensures.turns in
+    let number : c.turns.result + 1 ≡ m.counts.turns + 1 =
+    ap (λ n. n + 1) c.turns.ensures.turns in
     goes_of m _ c.args.cpu (g.Z.Silicon.seen c.args.z.now) _ _ _ was t.held h after _ got number
     (set_twice cpus i c.replace-held.new.dest t.held) c.turn_held-turned.ensures.goes there now
 
@@ -147,7 +148,7 @@ returns-clause-chip g c = λ h after there now.
     let got : slice_get cpus i ≡ Some was =
     slice_get_read cpus _ i c.index_mut.result.now refl inside c.index_mut.ensures.value
     ∙ ap (λ (q : Held). Some q) (sym c.replace-held.ensures.value) in
-    let t = c.turn_held-turned.result in
+    let t = made c.turn_held-turned.result c.turn_held-turned.new.written in
     let z = g.Z.Silicon.seen c.args.z.now in
     held_then (λ p q. TurnChanges m.config.threshold i p m.side m.pool (why_met z p t.outcome) q z
     (g.Z.Silicon.seen c.turn_held-turned.new.z)) cpus _ i was t.held h after got
@@ -163,7 +164,7 @@ returns-clause-recovered g c = λ h after there now.
     let got : slice_get cpus i ≡ Some was =
     slice_get_read cpus _ i c.index_mut.result.now refl inside c.index_mut.ensures.value
     ∙ ap (λ (q : Held). Some q) (sym c.replace-held.ensures.value) in
-    let t = c.turn_held-turned.result in
+    let t = made c.turn_held-turned.result c.turn_held-turned.new.written in
     held_then (λ p q. Recovers p (g.Z.Silicon.seen c.args.z.now) q) cpus _ i was t.held h after got
     (set_twice cpus i c.replace-held.new.dest t.held) c.turn_held-turned.ensures.recovered there now
 

@@ -24,10 +24,11 @@ returns-clause-gives g c =
     let v = g.Z.Silicon.tape c.args.silicon.now in
     let w = g.Z.Silicon.tape c.turn-turn.new.z in
     let t = c.turn-turn.result in
+    let es = c.turn-turn.new.entries.items in
     let f = c.turn-turn.ensures in
-    rw c.event_of.ensures
-    (gives_by (Turns c.args.cpu) e e2 y z v w (told_by c.args.cpu.0 t) c.requires.ready
-    (cpu_says e e2 y z v w c.args.cpu t f.rises f.calls_a f.calls_b f.turns f.config f.obeys
+    rw c.event_of-told.ensures
+    (gives_by (Turns c.args.cpu) e e2 y z v w (told_by c.args.cpu.0 t es c.turn-turn.new.written) c.requires.ready
+    (cpu_says e e2 y z v w c.args.cpu t es c.turn-turn.new.written f.rises f.calls_a f.calls_b f.turns f.config f.obeys
     (f.follows refl refl) (f.hands refl refl))
-    (cpu_struck e e2 y c.args.cpu t c.requires.ready c.requires.known f.config f.goes
+    (cpu_struck e e2 y c.args.cpu t es c.requires.ready c.requires.known f.config f.goes
     (f.causes refl refl)))

@@ -10,7 +10,7 @@ returns-clause-gives c = λ z v ready.
     let e : TwinMachine = c.args.self.now in
     let m2 = c.key.new.self in
     let f = c.key.ensures in
-    rw c.plain_turn.ensures.told
+    rw c.tell_alone.ensures.told
     (gives_by (Key c.args.cpu) e (record e { machine = m2 }) z z v v (key_told c.args.cpu) ready
     (plain_says (Key c.args.cpu) e m2 z v (key_told c.args.cpu) (key_hands c.args.cpu) f.turns f.config f.obeys
     (f.follows z))

@@ -11,7 +11,7 @@ returns-clause-gives c = λ z v ready.
     let m2 = c.return_core-entry.new.self in
     let entry = c.return_core-entry.result in
     let f = c.return_core-entry.ensures in
-    rw c.plain_turn.ensures.told
+    rw c.tell_alone.ensures.told
     (gives_by (Return c.args.core) e (record e { machine = m2 }) z z v v (return_told entry) ready
     (plain_says (Return c.args.core) e m2 z v (return_told entry) (return_hands c.args.core) f.turns f.config f.obeys
     (f.follows z))
