@@ -138,10 +138,7 @@ fn turn(held: Held, threshold: u8, p: &mut Parts) -> Option<Seen>
     let mut entries = ArrayVec::new();
     let mut a = PlainUnit::new();
     let mut b = PlainUnit::new();
-    let mut written = Written {
-        changed: ArrayVec::new(),
-        console: ArrayVec::new(),
-    };
+    let mut written = Written::new();
     let turned = turn_held(
         held,
         CpuNo(0),

@@ -118,10 +118,7 @@ fn turn(p: &mut Plant, cpu: CpuNo) -> Option<Told> {
     }
     let (mut a, mut b) = (PlainUnit::new(), PlainUnit::new());
     let mut entries = ArrayVec::new();
-    let mut written = Written {
-        changed: ArrayVec::new(),
-        console: ArrayVec::new(),
-    };
+    let mut written = Written::new();
     let turn = p
         .machine
         .turn(cpu, &mut p.z, &mut a, &mut b, &mut entries, &mut written);

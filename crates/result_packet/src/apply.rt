@@ -67,7 +67,8 @@ impl Packet {
         ensures stretches { length (stretches result.changed.items) ≤ 135 }
     {
         let pieces = self.stores(r.prefix, storage.size());
-        let written = self.apply_rest(cpu, r, storage, side);
+        let mut written = Written::new();
+        self.apply_rest(cpu, r, storage, side, &mut written);
         store_all(storage, pieces.as_slice());
         written
     }

@@ -15,7 +15,7 @@ use crate::codes::{key_set_of, taken_of};
 use crate::fields::blocks_at;
 use crate::notes::{note_from, note_piece};
 use crate::swap_bytes::{identification_bytes, old_psw_bytes};
-use crate::taken::{console_bytes, console_taken, take};
+use crate::taken::{console_taken, put_console, take};
 use crate::told::{first_of, interruption_in, second_of};
 use crate::{Packet, Side, Written, registers_of};
 use abs_storage::View;
@@ -91,26 +91,28 @@ fn note_interruption<V: View>(
     );
 }
 
-/// Carries out what a packet says of the keys, but for a key that it sets, and tells the bytes
-/// that its stores change.
+/// Carries out what a packet says of the keys, but for a key that it sets, and puts the bytes that
+/// its stores change into a list, in place of what it has. They are noted in the log.
 #[tactic(auto, unfolding(esa_model::specs::Apply::applied_keys))]
 fn note_told<V: View>(
     p: &Packet,
     r: &Registers,
     view: &mut V,
     keys: &mut Keys,
-) -> ArrayVec<Changed, 268>
+    log: &mut ChangeLog,
+    changed: &mut ArrayVec<Changed, 268>,
+)
     ensures keys { let size = length (V.bytes view.old) in
         keys.new ≡ applied_keys r.now (read p.now) size keys.old }
     ensures same { V.bytes view.new ≡ V.bytes view.old }
     ensures changed { let before = V.bytes view.old in
-        result.items ≡ changed_bytes before (applied_storage r.now (read p.now) before) }
+        changed.new.items ≡ changed_bytes before (applied_storage r.now (read p.now) before) }
 {
     reference_told(p, keys);
-    let mut log = ChangeLog::new();
-    note_pieces(p, view, keys, &mut log);
-    note_interruption(p, r, view, keys, &mut log);
-    log.differing()
+    log.clear();
+    note_pieces(p, view, keys, log);
+    note_interruption(p, r, view, keys, log);
+    log.put_differing(changed);
 }
 
 /// Sets the key that a packet tells.
@@ -126,7 +128,8 @@ fn set_told_key(p: &Packet, keys: &mut Keys)
 impl Packet {
     /// Carries out what the packet says for a CPU, but for the storing, over a view of the bytes
     /// before: reference bits; the keys of what is stored; the key; the request; the order to
-    /// another CPU; the console; the registers. What lies outside its range is ignored.
+    /// another CPU; the console; the registers. What lies outside its range is ignored. What the
+    /// event wrote is put in place of what `written` has.
     #[tactic(auto, unfolding(esa_model::specs::Packet::read))]
     pub fn apply_rest<V: View>(
         &self,
@@ -134,7 +137,8 @@ impl Packet {
         r: &mut Registers,
         view: &mut V,
         side: &mut Side,
-    ) -> Written
+        written: &mut Written,
+    )
         ensures registers { r.new ≡ (read self.now).registers }
         ensures same { V.bytes view.new ≡ V.bytes view.old }
         ensures keys { let size = length (V.bytes view.old) in
@@ -142,23 +146,21 @@ impl Packet {
         ensures bus { side.new.bus ≡ bus_left cpu.0 (read self.now) side.old.bus }
         ensures console { side.new.console ≡ console_left (read self.now) side.old.console }
         ensures clock { side.new.clock ≡ side.old.clock }
-        ensures written { result.console.items ≡ console_out (read self.now) }
+        ensures written { written.new.console.items ≡ console_out (read self.now) }
         ensures changed { let before = V.bytes view.old in
             let after = applied_storage r.old (read self.now) before in
-            result.changed.items ≡ changed_bytes before after }
-        ensures stretches { length (stretches result.changed.items) ≤ 135 }
+            written.new.changed.items ≡ changed_bytes before after }
+        ensures stretches { length (stretches written.new.changed.items) ≤ 135 }
     {
-        let changed = note_told(self, r, view, &mut side.keys);
+        let (log, changed) = (&mut written.log, &mut written.changed);
+        note_told(self, r, view, &mut side.keys, log, changed);
         set_told_key(self, &mut side.keys);
         take(&mut side.bus, cpu, taken_of(self.request(), self.sender()));
         side.bus
             .signal(cpu, CpuNo(self.sigp_cpu()), self.sigp_order());
         let read = console_taken(self, side.console.left());
         side.console.skip(read);
+        put_console(self, &mut written.console);
         *r = registers_of(self);
-        Written {
-            changed,
-            console: console_bytes(self),
-        }
     }
 }

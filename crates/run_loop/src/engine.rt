@@ -31,10 +31,7 @@ impl Turn {
             entries: ArrayVec::new(),
             event: None,
             psw: Psw { w0: 0, w1: 0 },
-            written: Written {
-                changed: ArrayVec::new(),
-                console: ArrayVec::new(),
-            },
+            written: Written::new(),
         }
     }
 }

@@ -78,8 +78,9 @@ fn turn_of(
     ensures changed { length (stretches result.written.changed.items) ≤ 1 }
     ensures struck { FailsAsStruck [] result.entries.items }
 {
-    let mut bytes = ArrayVec::new();
-    let _ = bytes.try_extend_from_slice(console);
+    let mut written = Written::new();
+    written.changed = changed_at(changed);
+    let _ = written.console.try_extend_from_slice(console);
     Turn {
         entries: entries_of(entry),
         event,
@@ -87,10 +88,7 @@ fn turn_of(
             w0: 0x0008_0000,
             w1: 0x8001_0002,
         },
-        written: Written {
-            changed: changed_at(changed),
-            console: bytes,
-        },
+        written,
     }
 }
 

@@ -4,3 +4,4 @@ pub mod Through
 pub mod Steps
 pub mod Groups
 pub mod Holding
+pub mod Unused

@@ -44,6 +44,10 @@ pub record Kept (bs : List Waiting) (storage : List ℕ) : Type 0 where
   pub inside : (j : ℕ) → AllInside (length storage) (committed_at bs j)
   pub held_inside : (j : ℕ) → AllInside (length storage) (held_at bs j)
 
+-- no buffer from number n on has a committed entry
+abbrev pub NoneFrom : ℕ → List Waiting → Type 0
+NoneFrom n bs = (j : ℕ) → n ≤ j → committed_at bs j ≡ []
+
 -- four entries of each buffer are not committed, so an event's stores find room
 abbrev pub Roomy : List Waiting → Type 0
 Roomy bs = (j : ℕ) → length (committed_at bs j) ≤ 4

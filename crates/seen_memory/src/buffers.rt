@@ -3,7 +3,7 @@ ghost use Rattle.std.specs.Prelude.{◌≡◌, ◌≢◌, ◌≤◌, ◌<◌, �
 ghost use Rattle.std.specs.Prelude.{slice_get, slice_set, Some, IsTrue};
 ghost use Rattle.esa_model.specs.Apply.{stored_all};
 ghost use Rattle.store_buffer.specs.Waiting.{Waiting, clash};
-ghost use Rattle.seen_memory.specs.Seen.{seen, committed_at, held_at, first_snooped, Kept, Roomy};
+ghost use Rattle.seen_memory.specs.Seen.{seen, committed_at, held_at, first_snooped, Kept, NoneFrom, Roomy};
 ghost use Rattle.seen_memory.specs.Draining.{Drained, Settled};
 
 use cached_storage::CachedStorage;
@@ -109,14 +109,15 @@ pub(crate) fn commit_held(buffers: &mut [Buffer], storage: &mut CachedStorage, i
         ≡ stored_all (held_at buffers.old i) (seen buffers.old storage.old) }
     ensures none { held_at buffers.new i ≡ [] }
     ensures size { length storage.new ≡ length storage.old }
+    ensures unused { (n : ℕ) → i < n → NoneFrom n buffers.old → NoneFrom n buffers.new }
 {
     settle(buffers, storage, i);
     release_at(buffers, i);
     make_room(buffers, storage, i);
 }
 
-/// The committed byte of the first buffer by CPU number that has one at an absolute address.
-pub(crate) fn snoop_all(buffers: &[Buffer], at: u32) -> Option<u8>
+// The committed byte of the first buffer by CPU number that has one at an absolute address.
+fn snoop_all(buffers: &[Buffer], at: u32) -> Option<u8>
     ensures { result ≡ first_snooped buffers.now at }
 {
     for buffer in buffers {
@@ -125,4 +126,13 @@ pub(crate) fn snoop_all(buffers: &[Buffer], at: u32) -> Option<u8>
         }
     }
     None
+}
+
+/// The same, where the buffers from number `used` on have no committed entry: those are not asked.
+pub(crate) fn snoop_used(buffers: &[Buffer], used: usize, at: u32) -> Option<u8>
+    requires used { used ≤ length buffers.now }
+    requires none { NoneFrom used buffers.now }
+    ensures { result ≡ first_snooped buffers.now at }
+{
+    snoop_all(&buffers[..used], at)
 }

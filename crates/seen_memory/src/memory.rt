@@ -1,13 +1,13 @@
 // The storage with its caches, and the store buffers of eight CPUs, as one memory.
-ghost use Rattle.std.specs.Prelude.{◌≡◌, ◌≤◌, ◌<◌, ◌+◌, ◌*◌, ◌%◌, [], ◌∷◌, ◌++◌, length, slice_get, IfOk};
+ghost use Rattle.std.specs.Prelude.{◌≡◌, ◌≤◌, ◌<◌, ◌+◌, ◌*◌, ◌%◌, ℕ, [], ◌∷◌, ◌++◌, length, slice_get, IfOk};
 ghost use Rattle.esa_model.specs.Apply.{applied_storage, console_out, stored_all};
 ghost use Rattle.esa_model.specs.Changes.{changed_bytes, stretches};
 ghost use Rattle.esa_model.specs.Packet.{read};
 ghost use Rattle.result_packet.specs.Applied.{keys_left, bus_left, console_left};
 ghost use Rattle.result_packet.specs.Pieces.{stores_of};
-ghost use Rattle.seen_memory.specs.Seen.{Kept, Roomy, seen, held_at};
+ghost use Rattle.seen_memory.specs.Seen.{Kept, NoneFrom, Roomy, seen, held_at};
 
-use crate::buffers::{commit_held, snoop_all};
+use crate::buffers::{commit_held, snoop_used};
 use crate::reading::Reading;
 use abs_storage::{AbsStorage, View};
 use cached_storage::CachedStorage;
@@ -27,13 +27,15 @@ pub struct Memory {
     storage: CachedStorage,
     // one for each CPU; a machine of fewer CPUs leaves the others empty
     buffers: [Buffer; 8],
+    // those from this number on were never lent to a CPU, so that a read need not ask them
+    used: usize,
     lent_to: usize,
     core: CoreNo,
 }
 
 impl Model for Memory {
-    ghost use Rattle.std.specs.Prelude.{◌≡◌, ◌<◌, length};
-    ghost use Rattle.seen_memory.specs.Seen.{Shown, seen, held_at, Kept, Roomy};
+    ghost use Rattle.std.specs.Prelude.{◌≡◌, ◌≤◌, ◌<◌, length};
+    ghost use Rattle.seen_memory.specs.Seen.{Shown, seen, held_at, Kept, NoneFrom, Roomy};
 
     ghost Value = { Shown };
 
@@ -43,7 +45,8 @@ impl Model for Memory {
     } };
 
     ghost invariant = { λ m. Kept m.buffers m.storage × Roomy m.buffers
-        × (m.lent_to < 8) × (m.core.0 < 16) × (length m.buffers ≡ 8) };
+        × NoneFrom m.used m.buffers × (m.lent_to < m.used) × (m.used ≤ 8)
+        × (m.core.0 < 16) × (length m.buffers ≡ 8) };
 }
 
 /// Holds bytes in a buffer.
@@ -61,6 +64,7 @@ fn hold_at(buffers: &mut [Buffer], storage: &CachedStorage, i: usize, at: u32, b
     ensures seen { seen buffers.new storage.now ≡ seen buffers.old storage.now }
     ensures held { held_at buffers.new i
         ≡ held_at buffers.old i ++ record { at = at; bytes = bytes.now } ∷ [] }
+    ensures unused { (n : ℕ) → NoneFrom n buffers.old → NoneFrom n buffers.new }
 {
     // its size tells the proof that it has at most 2^24 bytes
     let _ = storage.size();
@@ -76,19 +80,22 @@ fn drop_at(buffers: &mut [Buffer], storage: &CachedStorage, i: usize)
     ensures room { Roomy buffers.new }
     ensures seen { seen buffers.new storage.now ≡ seen buffers.old storage.now }
     ensures held { held_at buffers.new i ≡ [] }
+    ensures unused { (n : ℕ) → NoneFrom n buffers.old → NoneFrom n buffers.new }
 {
     buffers[i].drop_uncommitted();
 }
 
 /// The byte that is seen at an absolute address, `None` exactly outside. No cache is looked at.
 #[tactic(auto, using(crate::proofs::Through::seen_hit, crate::proofs::Through::seen_miss, crate::proofs::Through::seen_past))]
-fn byte_through(storage: &CachedStorage, buffers: &[Buffer], at: u32) -> Option<u8>
+fn byte_through(storage: &CachedStorage, buffers: &[Buffer], used: usize, at: u32) -> Option<u8>
+    requires used { used ≤ length buffers.now }
+    requires none { NoneFrom used buffers.now }
     ensures { result ≡ slice_get (seen buffers.now storage.now) at }
 {
     if at >= storage.size() {
         return None;
     }
-    match snoop_all(buffers, at) {
+    match snoop_used(buffers, used, at) {
         Some(byte) => Some(byte),
         None => storage.fetch(at),
     }
@@ -96,15 +103,23 @@ fn byte_through(storage: &CachedStorage, buffers: &[Buffer], at: u32) -> Option<
 
 /// The same through the cache of a core, where no buffer has the byte.
 #[tactic(auto, using(crate::proofs::Through::seen_hit, crate::proofs::Through::seen_miss, crate::proofs::Through::seen_past))]
-fn byte_by(storage: &mut CachedStorage, buffers: &[Buffer], core: CoreNo, at: u32) -> Option<u8>
-    requires { core.0 < 16 }
+fn byte_by(
+    storage: &mut CachedStorage,
+    buffers: &[Buffer],
+    used: usize,
+    core: CoreNo,
+    at: u32,
+) -> Option<u8>
+    requires used { used ≤ length buffers.now }
+    requires none { NoneFrom used buffers.now }
+    requires core { core.0 < 16 }
     ensures byte { result ≡ slice_get (seen buffers.now storage.old) at }
     ensures same { storage.new ≡ storage.old }
 {
     if at >= storage.size() {
         return None;
     }
-    if let Some(byte) = snoop_all(buffers, at) {
+    if let Some(byte) = snoop_used(buffers, used, at) {
         return Some(byte);
     }
     storage.fetch_by(core, at)
@@ -130,6 +145,7 @@ impl Memory {
                 Buffer::new(),
                 Buffer::new(),
             ],
+            used: 1,
             lent_to: 0,
             core: CoreNo(0),
         })
@@ -144,6 +160,7 @@ impl Memory {
         ensures held { self.new.held ≡ [] }
     {
         let cpu = cpu.0 as usize;
+        self.used = self.used.max(cpu + 1);
         self.lent_to = cpu;
         self.core = core;
         drop_at(&mut self.buffers, &self.storage, cpu);
@@ -176,7 +193,7 @@ impl Memory {
     pub fn read(&self, at: u32) -> Option<u8>
         ensures { result ≡ slice_get self.now.bytes at }
     {
-        byte_through(&self.storage, &self.buffers, at)
+        byte_through(&self.storage, &self.buffers, self.used, at)
     }
 
     /// Commits what is held: from now on every CPU sees it.
@@ -214,7 +231,7 @@ impl Memory {
         // the size tells the proof that the bytes are whole pages
         let _ = self.size();
         let mut reading = Reading { memory: self };
-        *written = packet.apply_rest(cpu, r, &mut reading, side);
+        packet.apply_rest(cpu, r, &mut reading, side, written);
         self.commit();
     }
 }
@@ -227,7 +244,7 @@ impl View for Memory {
     }
 
     fn byte(&mut self, at: u32) -> Option<u8> {
-        byte_by(&mut self.storage, &self.buffers, self.core, at)
+        byte_by(&mut self.storage, &self.buffers, self.used, self.core, at)
     }
 }
 

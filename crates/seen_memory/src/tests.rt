@@ -1,7 +1,6 @@
 // Bytes on their way from a CPU to the storage, and one that another CPU stores again.
 use crate::{Memory, Reading};
 use abs_storage::{AbsStorage, View};
-use arrayvec::ArrayVec;
 use esa_model::machine::{CpuNo, Psw, Registers};
 use result_packet::{Console, Packet, Side, Written};
 use run_model::faults::CoreNo;
@@ -140,10 +139,7 @@ fn carry_out(m: &mut Memory, side: &mut Side, packet: &Packet) -> Option<Written
     match pieces.as_slice() {
         [piece] => {
             m.hold(piece.at, piece.bytes.as_slice());
-            let mut written = Written {
-                changed: ArrayVec::new(),
-                console: ArrayVec::new(),
-            };
+            let mut written = Written::new();
             m.carry_out(side, CpuNo(1), &mut r, packet, &mut written);
             Some(written)
         }

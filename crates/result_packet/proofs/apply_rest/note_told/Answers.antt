@@ -12,8 +12,8 @@ returns-clause-changed g c =
     let before = g.V.View.bytes c.args.view.now in
     let f = read c.args.p.now in
     let pieces : List ℕ = piece f.second_at (second_bytes f) (piece f.first_at (first_bytes f) before) in
-    let first = subst (λ (ts : List Touched). Tells 0 before before ts) (sym c.new-log.ensures) (told_none 0 before) in
+    let first = subst (λ (ts : List Touched). Tells 0 before before ts) (sym c.clear.ensures) (told_none 0 before) in
     let second : Tells 0 before pieces c.note_pieces.new.log = c.note_pieces.ensures.log before first in
     let all = subst (λ (os : List ℕ). Tells 0 os (applied_storage c.args.r.now f before) c.note_interruption.new.log) c.note_pieces.ensures.same
     (c.note_interruption.ensures.log pieces (subst (λ (os : List ℕ). Tells 0 os pieces c.note_pieces.new.log) (sym c.note_pieces.ensures.same) second)) in
-    c.differing.ensures ∙ sym (told_whole before (applied_storage c.args.r.now f before) c.note_interruption.new.log all)
+    c.put_differing.ensures ∙ sym (told_whole before (applied_storage c.args.r.now f before) c.note_interruption.new.log all)

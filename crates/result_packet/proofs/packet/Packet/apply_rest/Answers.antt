@@ -13,7 +13,7 @@ returns-clause-keys g c =
     let f = read c.args.self.now in
     c.set_told_key.ensures
     ∙ ap (λ (ks : List ℕ). with_key (key_set_of f.block f.key) ks)
-    (c.note_told-changed.ensures.keys
+    (c.note_told.ensures.keys
     ∙ ap (λ (ks : List ℕ). applied_keys c.args.r.now f (length (g.V.View.bytes c.args.view.now)) ks) (ap (λ (s : Side). s.keys) c.side.view_is))
 
 pub returns-clause-bus : goal.returns-clause-bus
@@ -29,5 +29,5 @@ returns-clause-console g c =
 
 pub returns-clause-stretches : goal.returns-clause-stretches
 returns-clause-stretches g c =
-    stretches_few c.args.r.now c.args.self.now (g.V.View.bytes c.args.view.now) (applied_storage c.args.r.now (read c.args.self.now) (g.V.View.bytes c.args.view.now)) c.note_told-changed.result.items
-    refl c.note_told-changed.ensures.changed
+    stretches_few c.args.r.now c.args.self.now (g.V.View.bytes c.args.view.now) (applied_storage c.args.r.now (read c.args.self.now) (g.V.View.bytes c.args.view.now)) c.note_told.new.changed.items
+    refl c.note_told.ensures.changed
