@@ -10,10 +10,11 @@ ghost use Rattle.run_model.specs.Trace.{trace_line};
 ghost use Rattle.run_model.specs.declared.outputs.Place.TheVariants.{Trace};
 ghost use Rattle.gen_runs.specs.Counted.{RisesBy, nothing_counted};
 
+use arrayvec::ArrayVec;
 use esa_model::machine::{CpuNo, Event};
 use run_loop::{Turn, count_turn, none_made};
 use run_model::outputs::Counts;
-use trace_text::line;
+use trace_text::put_line;
 
 /// What is counted of turns: the numbers of a run's summary, the last of them the bytes that the trace would
 /// have.
@@ -41,7 +42,8 @@ fn line_length(number: u64, cpu: CpuNo, turn: &Turn) -> u64
         ≡ length (trace_line number cpu.0 turn.now.psw turn.now.written.changed.items) }
     ensures small { result ≤ 2048 }
 {
-    let text = line(number, cpu, turn.psw, &turn.written.changed);
+    let mut text = ArrayVec::new();
+    put_line(&mut text, number, cpu, turn.psw, &turn.written.changed);
     text.len() as u64
 }
 

@@ -9,12 +9,13 @@ ghost use Rattle.run_model.specs.Trace.{trace_line};
 ghost use Rattle.run_loop.specs.Engines.{told_of};
 
 use crate::engine::Turn;
+use arrayvec::ArrayVec;
 use esa_model::machine::{CpuNo, Event};
 use g5_outside::{Failed, Shelf, Sink};
 use g5_writing::{OutputFiles, Place, put};
 use run_model::logs::Entry;
 use service_log::write;
-use trace_text::line;
+use trace_text::put_line;
 
 fn write_entry<F: Shelf, O: Sink>(
     shelf: &mut F,
@@ -66,7 +67,8 @@ fn write_commit<F: Shelf, O: Sink>(
         ∷ piece Place.Out turn.now.written.console.items ∷ [])
         (F.seen shelf.old) (F.seen shelf.new) (O.seen out.old) (O.seen out.new) result }
 {
-    let text = line(number, cpu, turn.psw, &turn.written.changed);
+    let mut text = ArrayVec::new();
+    put_line(&mut text, number, cpu, turn.psw, &turn.written.changed);
     put(shelf, out, files, Place::Trace, &text)?;
     put(shelf, out, files, Place::Out, &turn.written.console)
 }

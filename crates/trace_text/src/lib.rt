@@ -7,4 +7,4 @@ mod lines;
 mod tests;
 
 pub use esa_model::changes::Changed;
-pub use lines::line;
+pub use lines::put_line;

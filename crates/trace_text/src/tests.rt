@@ -1,4 +1,5 @@
-use crate::{Changed, line};
+use crate::{Changed, put_line};
+use arrayvec::ArrayVec;
 use esa_model::machine::{CpuNo, Psw};
 
 #[test]
@@ -7,7 +8,8 @@ fn nothing_changed(rt: HostRuntime) {
         w0: 0x0008_0000,
         w1: 0x8001_0004,
     };
-    let text = line(1, CpuNo(0), psw, &[]);
+    let mut text = ArrayVec::new();
+    put_line(&mut text, 1, CpuNo(0), psw, &[]);
     assert_eq!(rt; text.as_slice(), b"1 C0 00080000 80010004\n".as_slice());
 }
 
@@ -48,7 +50,8 @@ fn overflow(rt: HostRuntime) {
             byte: 0x08,
         },
     ];
-    let text = line(1000000, CpuNo(7), psw, &changed);
+    let mut text = ArrayVec::new();
+    put_line(&mut text, 1000000, CpuNo(7), psw, &changed);
     let wanted =
         b"1000000 C7 00080000 80010080 000029=0838 00002C=8001 00002F=22 00008D=02 00008F=08\n";
     assert_eq!(rt; text.as_slice(), wanted.as_slice());
@@ -65,7 +68,8 @@ fn ends_of_storage(rt: HostRuntime) {
             byte: 0,
         },
     ];
-    let text = line(2, CpuNo(0), psw, &changed);
+    let mut text = ArrayVec::new();
+    put_line(&mut text, 2, CpuNo(0), psw, &changed);
     assert_eq!(rt;
         text.as_slice(),
         b"2 C0 00000000 00000000 000000=FF FFFFFF=00\n".as_slice()

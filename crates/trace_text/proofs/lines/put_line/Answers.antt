@@ -1,7 +1,7 @@
 use Rattle.std.proofs.Common.{arith, ap, length, length-append}
 use Rattle.run_model.specs.Trace.{changes_text}
 use Rattle.trace_text.proofs.Stretches.{length_changes}
-use Rattle.trace_text.proofs.lines.line.Goals as goal
+use Rattle.trace_text.proofs.lines.put_line.Goals as goal
 
 pub put_changes-requires : goal.put_changes-requires
 put_changes-requires c = let l = length_changes c.args.changed.now in omega arith
@@ -10,5 +10,5 @@ pub put-requires : goal.put-requires
 put-requires c =
     let l = length_changes c.args.changed.now in
     let e = ap length c.put_changes.ensures in
-    let a = length-append c.head-out.result.items (changes_text c.args.changed.now) in
+    let a = length-append c.put_head.new.out.items (changes_text c.args.changed.now) in
     omega arith
