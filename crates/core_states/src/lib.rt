@@ -5,6 +5,7 @@ mod cores;
 mod holding;
 mod latches;
 mod laws;
+mod resumed;
 mod states;
 mod tried;
 mod words;

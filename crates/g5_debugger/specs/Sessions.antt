@@ -1,5 +1,5 @@
 -- A session and its commands. Source: choice of this project.
-use Rattle.std.specs.Prelude.{◌≡◌, ◌≢◌, ℕ, ◌<◌, ◌≤◌, List, Option, Some, None, drop, take}
+use Rattle.std.specs.Prelude.{◌+◌, ◌≡◌, ◌≢◌, ℕ, ◌<◌, ◌≤◌, List, Option, Some, None, drop, take}
 use Rattle.g5_machine.specs.Standing.{StandsByMode}
 use Rattle.machine_runs.specs.declared.twin_machine.TwinMachine.{TwinMachine}
 use Rattle.program_model.specs.Debugger.{answer}
@@ -31,9 +31,9 @@ pub record IsUnused (e : TwinMachine) : Type 0 where
   pub calls_a : (plain e.a).calls ≡ 0
   pub calls_b : (plain e.b).calls ≡ 0
 
--- at most so many attempts of each core were begun
+-- of each core at most so many attempts were begun, beside 1,000,000 that there can be of a run before
 abbrev pub HasBegun : ℕ → Chip → Type 0
-HasBegun most z = (k : ℕ) → k < 16 → z.begun k ≤ most
+HasBegun most z = (k : ℕ) → k < 16 → z.begun k ≤ most + 1000000
 
 -- the turns of its schedule that are left
 abbrev pub left_of : Session → List RunKind

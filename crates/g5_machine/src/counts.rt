@@ -44,6 +44,25 @@ impl Counts {
         }
     }
 
+    /// So many turns, commits, and bytes of the console read and written.
+    pub fn resumed(turns: u64, commits: u64, read: u64, written: u64) -> Counts
+        requires { IsCounted (record {
+          turns = turns;
+          commits = commits;
+          read = read;
+          written = written;
+        }) }
+        ensures { result
+            ≡ record { turns = turns; commits = commits; read = read; written = written } }
+    {
+        Counts {
+            turns,
+            commits,
+            read,
+            written,
+        }
+    }
+
     /// A turn without a commit.
     pub fn add_turn(&mut self)
         requires { self.old.turns < 2 ^ 48 }

@@ -4,6 +4,7 @@
 mod counts;
 mod keys;
 mod machine;
+mod resuming;
 mod returning;
 mod starting;
 mod state;
@@ -12,6 +13,7 @@ mod turns;
 
 pub use core_turns::Outcome;
 pub use machine::Machine;
+pub use resuming::Tally;
 pub use turns::Turn;
 
 #[cfg(test)]

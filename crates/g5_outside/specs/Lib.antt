@@ -5,7 +5,7 @@ pub mod Streams
 pub mod Numbers
 pub mod Plans
 pub mod BoundedTexts
-pub mod CreatedPairs
+pub mod CreatedFiles
 pub mod MemoryFiles
 pub mod MemoryShelves
 pub mod MemoryStreams

@@ -3,7 +3,7 @@ use Rattle.std.specs.Prelude.{ℕ, true, drop}
 use Rattle.g5_outside.specs.Numbers.{numbers_below}
 use Rattle.g5_outside.specs.Views.{ShelfView}
 use Rattle.g5_outside.specs.Plans.{Plan, plan_of, step_of}
-use Rattle.g5_outside.specs.CreatedPairs.{name_in, created_text, pair_room}
+use Rattle.g5_outside.specs.CreatedFiles.{name_in, created_text, files_room}
 use Rattle.g5_outside.specs.MemoryFiles.{files_of, bytes_at}
 use Rattle.g5_outside.specs.declared.memory_shelf.MemoryShelf.{MemoryShelf}
 
@@ -30,4 +30,4 @@ shelf_step s = step_of s.calls
 
 -- the room for each created file, and for its name
 abbrev pub shelf_room : MemoryShelf → ℕ
-shelf_room s = pair_room s.created
+shelf_room s = files_room s.created

@@ -2,7 +2,7 @@
 #![tactic(auto)]
 
 mod bounded_text;
-mod created_pair;
+mod created_files;
 mod host;
 mod memory_shelf;
 mod memory_streams;

@@ -8,7 +8,7 @@ ghost use Rattle.g5_outside.specs.Plans.{fails_next, after_call, fresh_plan};
 ghost use Rattle.g5_outside.specs.MemoryFiles.{files_of, bytes_at};
 
 use crate::bounded_text::read_from;
-use crate::created_pair::CreatedPair;
+use crate::created_files::CreatedFiles;
 use crate::planned_calls::PlannedCalls;
 use crate::{Failed, FileNo, NoMemory, Shelf};
 use std::alloc::Global;
@@ -20,7 +20,7 @@ pub struct NamedFile {
     pub bytes: Vec<u8>,
 }
 
-/// Files in memory, and room for two that are created. Its calls are numbered from 1, and those whose
+/// Files in memory, and room for three that are created. Its calls are numbered from 1, and those whose
 /// numbers it was given fail. A read or write moves as many bytes as it can, or at most as many as were
 /// set. It tells all that it holds.
 #[derive(Drop)]
@@ -31,16 +31,16 @@ pub struct MemoryShelf {
     at_byte: usize,
     found: bool,
     given: u32,
-    created: CreatedPair,
+    created: CreatedFiles,
     read_faults: u64,
     write_faults: u64,
-    ghost in_range: { given ≤ 2 },
+    ghost in_range: { given ≤ 3 },
 }
 
 impl MemoryShelf {
     ghost use Rattle.g5_outside.specs.MemoryShelves.{shelf_view, shelf_plan, shelf_step, shelf_room};
 
-    /// Of files with one name the first counts. Each of the two files that can be created has so many bytes
+    /// Of files with one name the first counts. Each of the three files that can be created has so many bytes
     /// of room, and each of their names as many.
     pub fn new(
         alloc: Global,
@@ -65,7 +65,7 @@ impl MemoryShelf {
             at_byte: 0,
             found: false,
             given: 0,
-            created: CreatedPair::new(alloc, room)?,
+            created: CreatedFiles::new(alloc, room)?,
             read_faults: 0,
             write_faults: 0,
         })
@@ -84,25 +84,25 @@ impl MemoryShelf {
 
     /// The name of a created file.
     pub fn name_of(&self, file: FileNo) -> &[u8]
-        requires { file.0 < 2 }
+        requires { file.0 < 3 }
         ensures { result.now ≡ (shelf_view self.now).name_of file.0 }
     {
-        if file.0 == 0 {
-            self.created.first.name.text()
-        } else {
-            self.created.second.name.text()
+        match file.0 {
+            0 => self.created.first.name.text(),
+            1 => self.created.second.name.text(),
+            _ => self.created.third.name.text(),
         }
     }
 
     /// The bytes of a created file.
     pub fn text_of(&self, file: FileNo) -> &[u8]
-        requires { file.0 < 2 }
+        requires { file.0 < 3 }
         ensures { result.now ≡ (shelf_view self.now).text_of file.0 }
     {
-        if file.0 == 0 {
-            self.created.first.text.text()
-        } else {
-            self.created.second.text.text()
+        match file.0 {
+            0 => self.created.first.text.text(),
+            1 => self.created.second.text.text(),
+            _ => self.created.third.text.text(),
         }
     }
 
@@ -185,7 +185,7 @@ impl Shelf for MemoryShelf {
     }
 
     fn create(&mut self, name: &str) -> Result<FileNo, Failed>
-        requires { length (shelf_view self.old).numbers < 2 }
+        requires { length (shelf_view self.old).numbers < 3 }
         ensures cause { HasCause (shelf_view self.old).write_faults (shelf_view self.new).write_faults result }
         ensures reads { (shelf_view self.old).read_faults ≤ (shelf_view self.new).read_faults }
         ensures numbers { Numbers (shelf_view self.old).numbers (shelf_view self.new).numbers result }

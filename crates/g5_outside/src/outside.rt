@@ -61,7 +61,7 @@ pub trait Shelf {
 
     /// Makes a file of that name with no byte, and gives it a new number.
     fn create(&mut self, name: &str) -> Result<FileNo, Failed>
-        requires { length (seen self.old).numbers < 2 }
+        requires { length (seen self.old).numbers < 3 }
         ensures cause { HasCause (seen self.old).write_faults (seen self.new).write_faults result }
         ensures reads { (seen self.old).read_faults ≤ (seen self.new).read_faults }
         ensures numbers { Numbers (seen self.old).numbers (seen self.new).numbers result }

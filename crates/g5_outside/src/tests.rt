@@ -49,6 +49,27 @@ fn memory_shelf(alloc: Global, failing: &[u64], room: usize) -> Result<MemoryShe
     Ok(MemoryShelf::new(alloc, files, Vec::from_slice(alloc, failing)?, room)?)
 }
 
+// Creates three files and writes into the last.
+fn write_third<F: Shelf>(shelf: &mut F, bytes: &[u8]) -> Result<usize, Failed>
+    requires none { (F.seen shelf.old).numbers ≡ [] }
+    requires some { 0 < length bytes.now }
+{
+    shelf.create("L")?;
+    shelf.create("T")?;
+    let file = shelf.create("V")?;
+    shelf.write(file, bytes)
+}
+
+#[test]
+fn three_files_created(rt: HostRuntime) -> Result<(), Fail> {
+    let mut shelf = memory_shelf(rt.alloc(), &[], 4)?;
+    assert_eq!(rt; write_third(&mut shelf, b"save"), Ok(4));
+    assert_eq!(rt; shelf.name_of(FileNo(2)), b"V".as_slice());
+    assert_eq!(rt; shelf.text_of(FileNo(2)), b"save".as_slice());
+    assert_eq!(rt; shelf.text_of(FileNo(1)), b"".as_slice());
+    Ok(())
+}
+
 #[test]
 fn files_in_memory(rt: HostRuntime) -> Result<(), Fail> {
     let alloc = rt.alloc();

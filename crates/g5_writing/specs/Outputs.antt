@@ -41,7 +41,7 @@ pub record AddsToSink {T E : Type 0} (bytes : List ℕ) (old new : SinkView) (re
   pub all : OnOk result (take count bytes ≡ bytes)
   pub cause : OnErr result (Rose old.faults new.faults)
 
--- the three outputs have these pieces more, and nothing else changed
+-- the three outputs have these pieces more, and nothing else changed, nor any other file
 pub record Grew (files : OutputFiles) (pieces : List Piece) (old new : ShelfView) (out_old out_new : SinkView) : Type 0 where
   pub numbers : new.numbers ≡ old.numbers
   pub found : new.found ≡ old.found
@@ -51,6 +51,8 @@ pub record Grew (files : OutputFiles) (pieces : List Piece) (old new : ShelfView
   pub out_told : out_new.told ≡ out_old.told
   pub out_faults : out_old.faults ≤ out_new.faults
   pub names : IsTrue old.told → (n : ℕ) → new.name_of n ≡ old.name_of n
+  pub others : IsTrue old.told → (n : ℕ) → n ≢ files.log.0 → n ≢ files.trace.0
+      → new.text_of n ≡ old.text_of n
   pub log : IsTrue old.told → new.text_of files.log.0 ≡ old.text_of files.log.0 ++ text Log pieces
   pub trace : IsTrue old.told → new.text_of files.trace.0 ≡ old.text_of files.trace.0 ++ text Trace pieces
   pub out : IsTrue out_old.told → out_new.taken ≡ out_old.taken ++ text Out pieces

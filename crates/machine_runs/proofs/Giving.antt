@@ -83,7 +83,7 @@ core_small e z i ready lt =
 
 -- the attempts begun on its core
 pub begun_small : (e : TwinMachine) (z : Chip) (i : ℕ) (most : ℕ) → IsReady e z
-    → i < e.machine.config.cpus → e.machine.counts.turns < most
+    → i < e.machine.config.cpus → e.machine.counts.turns + 1000000 < most
     → z.begun (core_at e.machine.cpus.items i) < most
 begun_small e z i most ready lt room =
     let small = core_small e z i ready lt in

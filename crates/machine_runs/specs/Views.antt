@@ -14,10 +14,11 @@ use Rattle.g5_machine.specs.Standing.{StandsFor, StandsByMode}
 use Rattle.run_loop.specs.Engines.{EngineView, FailsAsStruck, Follows, Kept, Obeys, SoundTurn}
 use Rattle.machine_runs.specs.declared.twin_machine.TwinMachine.{TwinMachine}
 
--- It is in order for a turn: no core has begun more attempts, and no unit was called more often,
--- than turns were made; and it stands by its modes for cores that each stand in one place.
+-- It is in order for a turn: no unit was called more often than turns were made, and no core has begun
+-- more attempts than turns were made and 1,000,000, which is the most that a machine has that is stood
+-- up again; and it stands by its modes for cores that each stand in one place.
 pub record IsReady (e : TwinMachine) (z : Chip) : Type 0 where
-  pub begun : (c : ℕ) → c < 16 → z.begun c ≤ e.machine.counts.turns
+  pub begun : (c : ℕ) → c < 16 → z.begun c ≤ e.machine.counts.turns + 1000000
   pub calls_a : (plain e.a).calls ≤ e.machine.counts.turns
   pub calls_b : (plain e.b).calls ≤ e.machine.counts.turns
   pub cores : Cores

@@ -52,6 +52,17 @@ impl Bus {
         Ok(Bus { cpus: signals })
     }
 
+    /// A bus of 1 to 8 CPUs with these signals.
+    pub fn resumed(alloc: Global, signals: &[Signals]) -> Result<Bus, NoMemory>
+        requires some { 1 ≤ length signals.now }
+        requires most { length signals.now ≤ 8 }
+        ensures { IfOk result (λ b. b ≡ signals.now) }
+    {
+        let mut cpus = Vec::with_capacity(alloc, signals.len())?;
+        cpus.extend_from_slice(signals).map_err(|_| NoMemory)?;
+        Ok(Bus { cpus })
+    }
+
     /// The number of CPUs.
     pub fn cpus(&self) -> u8
         ensures number { result ≡ length self.now }

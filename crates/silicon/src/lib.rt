@@ -4,6 +4,7 @@
 ghost use Rattle.std.specs.Prelude.{◌≡◌, ◌-◌, ◌^◌, ◌<◌};
 ghost use Rattle.run_model.specs.Script.{InForm};
 ghost use Rattle.silicon.specs.Chip.{Chip, Fresh, Arms, Begins, Puts, Stays, last};
+ghost use Rattle.silicon.specs.Resumed.{Resumes};
 ghost use Rattle.silicon.specs.Chip.{passed_fetch, passed_packet, passed_store};
 ghost use Rattle.silicon.specs.Tape.{Tape, tell};
 ghost use Rattle.silicon.specs.declared.handed.Handed.TheVariants as handed;
@@ -84,6 +85,13 @@ pub trait Silicon {
         requires core { core.0 < 16 }
         requires word { word < 40 }
         ensures puts { Puts core.0 word stored (seen self.old) (seen self.new) }
+        ensures tape { tape self.new ≡ tape self.old };
+
+    /// So many attempts of a core were begun, of which none was begun here. No strike lands.
+    fn resume_at(&mut self, core: CoreNo, begun: u64)
+        requires core { core.0 < 16 }
+        requires none { (seen self.old).begun core.0 ≡ 0 }
+        ensures resumes { Resumes core.0 begun (seen self.old) (seen self.new) }
         ensures tape { tape self.new ≡ tape self.old };
 
     /// The word as it is stored now.

@@ -7,7 +7,7 @@ ghost use Rattle.silicon.specs.Lines.{lines_of, Follow, form_prop, follow_prop};
 use crate::Silicon;
 use crate::landing::{fetch_struck, land, store_struck, strike_packet};
 use crate::passing::{strike_fetch, strike_store};
-use crate::walks::begin;
+use crate::walks::{begin, begin_all};
 use fault_script::{Script, Unit, Walk};
 use result_packet::{FetchLatch, Packet, StoreLatch};
 use run_model::faults::CoreNo;
@@ -102,6 +102,11 @@ impl Silicon for ScriptSilicon {
 
     fn put_word(&mut self, core: CoreNo, word: u8, stored: u128) {
         self.words[core.0 as usize * 40 + word as usize] = stored;
+    }
+
+    fn resume_at(&mut self, core: CoreNo, begun: u64) {
+        begin_all(&mut self.walk, core, begun);
+        self.begun[core.0 as usize] = begun;
     }
 
     fn get_word(&self, core: CoreNo, word: u8) -> u128 {

@@ -110,6 +110,10 @@ impl Silicon for TapSilicon {
         self.under.put_word(core, word, stored);
     }
 
+    fn resume_at(&mut self, core: CoreNo, begun: u64) {
+        self.under.resume_at(core, begun);
+    }
+
     fn get_word(&self, core: CoreNo, word: u8) -> u128 {
         self.under.get_word(core, word)
     }

@@ -3,3 +3,4 @@ pub mod Puts
 pub mod Taken
 pub mod Lowest
 pub mod Apart
+pub mod Fenced

@@ -1,7 +1,7 @@
 // Where a number stands, or belongs, in a list that ascends.
-ghost use Rattle.std.specs.Prelude.{◌≡◌, ◌≤◌, length, nat_lt};
-ghost use Rattle.std.specs.List.{position};
-ghost use Rattle.sparing.specs.Pools.{place_above, place_with};
+ghost use Rattle.std.specs.Prelude.{◌≡◌, ◌≤◌, ◌==◌, length, nat_lt};
+ghost use Rattle.std.specs.List.{list_any, position};
+ghost use Rattle.sparing.specs.Pools.{place_above, place_with, stands};
 
 use run_model::faults::{CoreNo, Numbered};
 
@@ -27,4 +27,17 @@ pub fn place_of<S: Numbered>(list: &[S], number: CoreNo) -> Option<usize>
     ensures { result ≡ place_with S.number_of number.0 list.now }
 {
     list.iter().position(|s| s.number().0 == number.0)
+}
+
+fn any_has<S: Numbered>(list: &[S], number: CoreNo) -> bool
+    ensures { result ≡ list_any (λ s. S.number_of s == number.0) list.now }
+{
+    list.iter().any(|s| s.number().0 == number.0)
+}
+
+// Whether one has the number.
+pub fn is_among<S: Numbered>(list: &[S], number: CoreNo) -> bool
+    ensures { result ≡ stands S.number_of list.now number.0 }
+{
+    any_has(list, number)
 }

@@ -2,9 +2,9 @@
 ghost use Rattle.std.specs.Prelude.{◌≡◌, ◌<◌, ◌≤◌, [], ◌∷◌, IfOk, MatchOption};
 ghost use Rattle.std.specs.Vec.{vec_capacity};
 ghost use Rattle.std.specs.Option.{option_map};
-ghost use Rattle.sparing.specs.Pools.{Absent, Apart, Ascends, TakenOut, holds, lowest_number, put};
+ghost use Rattle.sparing.specs.Pools.{Absent, Apart, Ascends, TakenOut, holds, lowest_number, put, stands};
 
-use crate::places::{place_for, place_of};
+use crate::places::{is_among, place_for, place_of};
 use esa_model::memory::NoMemory;
 use run_model::faults::{CoreNo, Numbered};
 use std::alloc::Global;
@@ -141,6 +141,13 @@ impl<S: Numbered, F: Numbered> Pool<S, F> {
         } else {
             Some(self.spares.remove(0))
         }
+    }
+
+    /// Whether a core is fenced.
+    pub fn is_fenced(&self, core: CoreNo) -> bool
+        ensures { result ≡ stands F.number_of self.now.fenced core.0 }
+    {
+        is_among(self.fenced.as_slice(), core)
     }
 
     /// Takes a core out of the fenced ones; `None` where it is not among them.

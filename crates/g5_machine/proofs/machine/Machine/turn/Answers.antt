@@ -84,7 +84,7 @@ returns-clause-follows g c = λ ea eb x st bounded sound.
     let read : c.min-read.result
     ≡ min (length m.side.console - length c.turn_held-turned.new.side.console) 256 =
     rw (sym c.console_left-left.ensures, sym c.console_left.ensures) (search rules) in
-    follows_of m _ c.args.cpu z _ _ t _ _ x h st bounded c.requires.known got m.placed
+    follows_of m _ c.args.cpu z _ _ t _ c.turn_held-turned.new.written x h st bounded c.requires.known got m.placed
     (set_twice cpus i c.replace-held.new.dest t.held)
     (c.count.ensures.counts ∙ rw (read, c.len.ensures.value) refl) refl f
 
@@ -118,7 +118,8 @@ returns-clause-obeys g c = λ s st.
     ∙ ap (λ (q : Held). Some q) (sym c.replace-held.ensures.value) in
     let number : c.turns.result + 1 ≡ m.counts.turns + 1 =
     ap (λ n. n + 1) c.turns.ensures.turns in
-    obeys_of m _ c.args.cpu (g.Z.Silicon.seen c.args.z.now) _ t _ _ h _ c.min-read.result
+    obeys_of m _ c.args.cpu (g.Z.Silicon.seen c.args.z.now) _ t _ c.turn_held-turned.new.written h
+    _ c.min-read.result
     c.len.result s st got number (set_twice cpus i c.replace-held.new.dest t.held)
     c.count.ensures.counts refl c.turn_held-turned.ensures.goes
 

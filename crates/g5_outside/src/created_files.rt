@@ -1,4 +1,4 @@
-// The two files that can be created in memory.
+// The three files that can be created in memory.
 ghost use Rattle.std.specs.Prelude.{◌≡◌, ◌≢◌, ◌-◌, ◌<◌, ◌≤◌, ◌++◌, [], ℕ, length, take, min, IfOk};
 ghost use Rattle.g5_outside.specs.BoundedTexts.{text_in, room_in};
 
@@ -37,63 +37,66 @@ impl CreatedFile {
     }
 }
 
-/// Two files by the numbers 0 and 1, with the same room.
+/// Three files by the numbers 0 to 2, with the same room.
 #[derive(Drop)]
-pub struct CreatedPair {
+pub struct CreatedFiles {
     pub first: CreatedFile,
     pub second: CreatedFile,
-    ghost same_room: { room_in second.text ≡ room_in first.text },
+    pub third: CreatedFile,
+    ghost second_room: { room_in second.text ≡ room_in first.text },
+    ghost third_room: { room_in third.text ≡ room_in first.text },
 }
 
-impl CreatedPair {
-    ghost use Rattle.g5_outside.specs.CreatedPairs.{name_in, created_text, pair_room};
+impl CreatedFiles {
+    ghost use Rattle.g5_outside.specs.CreatedFiles.{name_in, created_text, files_room};
 
-    pub fn new(alloc: Global, room: usize) -> Result<CreatedPair, NoMemory>
-        ensures { IfOk result (λ pair. pair_room pair ≡ room) }
+    pub fn new(alloc: Global, room: usize) -> Result<CreatedFiles, NoMemory>
+        ensures { IfOk result (λ files. files_room files ≡ room) }
     {
-        Ok(CreatedPair {
+        Ok(CreatedFiles {
             first: CreatedFile::new(alloc, room)?,
             second: CreatedFile::new(alloc, room)?,
+            third: CreatedFile::new(alloc, room)?,
         })
     }
 
     pub fn room(&self) -> usize
-        ensures { result ≡ pair_room self.now }
+        ensures { result ≡ files_room self.now }
     {
         self.first.text.room()
     }
 
     /// Gives a number its name and no byte.
     pub fn start(&mut self, number: u32, name: &[u8])
-        requires number { number < 2 }
-        requires fits { length name.now ≤ pair_room self.old }
+        requires number { number < 3 }
+        requires fits { length name.now ≤ files_room self.old }
         ensures named { name_in self.new number ≡ name.now }
         ensures empty { created_text self.new number ≡ [] }
         ensures names { (n : ℕ) → n < number → name_in self.new n ≡ name_in self.old n }
         ensures texts { (n : ℕ) → n < number → created_text self.new n ≡ created_text self.old n }
-        ensures room { pair_room self.new ≡ pair_room self.old }
+        ensures room { files_room self.new ≡ files_room self.old }
     {
-        if number == 0 {
-            self.first.start(name);
-        } else {
-            self.second.start(name);
+        match number {
+            0 => self.first.start(name),
+            1 => self.second.start(name),
+            _ => self.third.start(name),
         }
     }
 
     /// Adds as many first bytes to the text of a number as there is room for, at most so many, and says
     /// how many.
     pub fn add(&mut self, number: u32, bytes: &[u8], most: usize) -> usize
-        requires { number < 2 }
-        ensures count { result ≡ min (min (pair_room self.old - length (created_text self.old number)) (length bytes.now)) most }
+        requires { number < 3 }
+        ensures count { result ≡ min (min (files_room self.old - length (created_text self.old number)) (length bytes.now)) most }
         ensures text { created_text self.new number ≡ created_text self.old number ++ take result bytes.now }
         ensures names { (n : ℕ) → name_in self.new n ≡ name_in self.old n }
         ensures others { (n : ℕ) → n ≢ number → created_text self.new n ≡ created_text self.old n }
-        ensures room { pair_room self.new ≡ pair_room self.old }
+        ensures room { files_room self.new ≡ files_room self.old }
     {
-        if number == 0 {
-            self.first.text.add(bytes, most)
-        } else {
-            self.second.text.add(bytes, most)
+        match number {
+            0 => self.first.text.add(bytes, most),
+            1 => self.second.text.add(bytes, most),
+            _ => self.third.text.add(bytes, most),
         }
     }
 }
