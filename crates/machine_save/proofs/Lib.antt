@@ -1,0 +1,10 @@
+pub mod Behind
+pub mod Copies
+pub mod Filling
+pub mod Fronts
+pub mod Goods
+pub mod PartsAgain
+pub mod Pooling
+pub mod Serving
+pub mod StoodUp
+pub mod WordsAgain

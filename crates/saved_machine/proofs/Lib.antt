@@ -1,0 +1,4 @@
+pub mod SameHeld
+pub mod SamePlaces
+pub mod Signalled
+pub mod StandingAgain
