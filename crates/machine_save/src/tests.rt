@@ -1,4 +1,6 @@
 // A machine that has made no turn, saved; parts worked by hand from the table of the format.
+ghost use Rattle.std.specs.Prelude.{◌≡◌, ◌*◌, IsTrue, length};
+
 use crate::{Counts, cpus, reserve, resume, save};
 use abs_storage::AbsStorage;
 use deck_model::decks::Loaded;
@@ -49,16 +51,34 @@ const NONE: Counts = Counts {
     returned: 0,
 };
 
-fn started(alloc: Global, z: &mut ScriptSilicon) -> Result<Machine, Fail> {
-    let mut storage = AbsStorage::new(alloc, 0x2_0000)?;
+/// A machine and its silicon.
+#[derive(Drop)]
+struct Plant {
+    machine: Machine,
+    z: ScriptSilicon,
+}
+
+fn has_pages(storage: &AbsStorage) -> bool
+    ensures { IsTrue result → length storage.now ≡ 4096 * 32 }
+{
+    storage.size() == 4096 * 32
+}
+
+fn put_branch(storage: &mut AbsStorage) {
     let _ = storage.store(0x1_0000, 0x47);
     let _ = storage.store(0x1_0001, 0xF0);
+}
+
+fn started(alloc: Global) -> Result<Plant, Fail> {
+    let mut storage = AbsStorage::new(alloc, 0x2_0000)?;
+    put_branch(&mut storage);
+    if !has_pages(&storage) {
+        return Err("a storage".into());
+    }
+    let mut z = ScriptSilicon::new();
     let entry = Loaded { address: 0x1_0000 };
-    let console = Vec::new(alloc);
-    let Ok(machine) = Machine::new(alloc, SMALL, entry, storage, console, z) else {
-        return Err("no memory".into());
-    };
-    Ok(machine)
+    let machine = Machine::new(alloc, SMALL, entry, storage, Vec::new(alloc), &mut z)?;
+    Ok(Plant { machine, z })
 }
 
 fn bytes_of(
@@ -67,18 +87,19 @@ fn bytes_of(
     counts: Counts,
     z: &ScriptSilicon,
 ) -> Result<Vec<u8>, Fail> {
-    let Ok(room) = reserve(alloc, &SMALL) else {
-        return Err("no memory".into());
-    };
+    let config = machine.config();
+    if config.pages > 4096 {
+        return Err("a configuration".into());
+    }
+    let room = reserve(alloc, config)?;
     Ok(save(room, machine, counts, z))
 }
 
 #[test]
 fn a_start_is_saved(rt: HostRuntime) -> Result<(), Fail> {
     let alloc = rt.alloc();
-    let mut z = ScriptSilicon::new();
-    let machine = started(alloc, &mut z)?;
-    let bytes = bytes_of(alloc, &machine, COUNTS, &z)?;
+    let plant = started(alloc)?;
+    let bytes = bytes_of(alloc, &plant.machine, COUNTS, &plant.z)?;
     assert_eq!(rt; bytes.len(), 10_584 + 336 + 4_097 * 32);
     for (at, part) in PARTS {
         assert!(rt;
@@ -90,37 +111,52 @@ fn a_start_is_saved(rt: HostRuntime) -> Result<(), Fail> {
     Ok(())
 }
 
+// The save of what is resumed from a save.
+fn saved_again(alloc: Global, bytes: &[u8]) -> Result<Vec<u8>, Fail> {
+    let mut z = ScriptSilicon::new();
+    let Ok(resumed) = resume(alloc, bytes, Vec::new(alloc), 10, &mut z) else {
+        return Err("refused".into());
+    };
+    bytes_of(alloc, &resumed.machine, resumed.counts, &z)
+}
+
 #[test]
 fn a_machine_that_is_resumed_has_the_same_save(rt: HostRuntime) -> Result<(), Fail> {
     let alloc = rt.alloc();
-    let mut z = ScriptSilicon::new();
-    let machine = started(alloc, &mut z)?;
-    let bytes = bytes_of(alloc, &machine, NONE, &z)?;
-    let mut fresh = ScriptSilicon::new();
-    let Ok(resumed) = resume(alloc, &bytes, Vec::new(alloc), 10, &mut fresh) else {
-        return Err("refused".into());
-    };
-    let again = bytes_of(alloc, &resumed.machine, resumed.counts, &fresh)?;
+    let plant = started(alloc)?;
+    let bytes = bytes_of(alloc, &plant.machine, NONE, &plant.z)?;
+    let again = saved_again(alloc, &bytes)?;
     assert!(rt; again.iter().eq(bytes.iter()));
     Ok(())
 }
 
+// The first so many of them, or all.
+fn front(bytes: &[u8], many: usize) -> &[u8] {
+    if many <= bytes.len() {
+        &bytes[..many]
+    } else {
+        bytes
+    }
+}
+
 // The refusal of the first so many bytes of a save.
-fn refusal_of(alloc: Global, bytes: &[u8]) -> Option<SaveRefusal> {
+fn refusal_of(alloc: Global, bytes: &[u8], many: usize) -> Option<SaveRefusal> {
     let mut z = ScriptSilicon::new();
-    resume(alloc, bytes, Vec::new(alloc), 10, &mut z).err()
+    match resume(alloc, front(bytes, many), Vec::new(alloc), 10, &mut z) {
+        Ok(_) => None,
+        Err(refusal) => Some(refusal),
+    }
 }
 
 #[test]
 fn saves_that_are_cut_or_wrong_are_refused(rt: HostRuntime) -> Result<(), Fail> {
     let alloc = rt.alloc();
-    let mut z = ScriptSilicon::new();
-    let machine = started(alloc, &mut z)?;
-    let bytes = bytes_of(alloc, &machine, NONE, &z)?;
-    assert!(rt; refusal_of(alloc, &bytes[..142_023]) == Some(SaveRefusal::BadLength));
-    assert!(rt; refusal_of(alloc, &bytes[..15]) == Some(SaveRefusal::BadHead));
-    assert!(rt; cpus(&bytes[..15]) == Err(SaveRefusal::BadHead));
-    let counted = bytes_of(alloc, &machine, COUNTS, &z)?;
-    assert!(rt; refusal_of(alloc, &counted) == Some(SaveRefusal::BadField(56)));
+    let plant = started(alloc)?;
+    let bytes = bytes_of(alloc, &plant.machine, NONE, &plant.z)?;
+    assert!(rt; refusal_of(alloc, &bytes, 142_023) == Some(SaveRefusal::BadLength));
+    assert!(rt; refusal_of(alloc, &bytes, 15) == Some(SaveRefusal::BadHead));
+    assert!(rt; cpus(front(&bytes, 15)) == Err(SaveRefusal::BadHead));
+    let counted = bytes_of(alloc, &plant.machine, COUNTS, &plant.z)?;
+    assert!(rt; refusal_of(alloc, &counted, 142_024) == Some(SaveRefusal::BadField(56)));
     Ok(())
 }

@@ -8,8 +8,8 @@ ghost use Rattle.saved_machine.specs.Again.{HasCallers, IsSized, IsTyped};
 ghost use Rattle.saved_machine.specs.Saved.{saved};
 ghost use Rattle.saved_machine.specs.declared.counts.Counts.{Counts};
 
-/// Where a machine and its silicon stand for a state, another machine of the same save, with the same
-/// console input left, stands for that state too.
+/// Where a machine and its silicon stand for a state, another machine of the same save, with the
+/// same console input left, stands for that state too.
 #[tactic(auto, using(crate::proofs::StandingAgain::stands_again))]
 pub fn machines_of_one_save_stand_alike()
     ensures { (m m2 : Machine) (n n2 : Counts) (z z2 : Chip) (x : Model) → StandsFor m z x
