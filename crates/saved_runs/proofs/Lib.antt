@@ -1,0 +1,9 @@
+pub mod BothParts
+pub mod Carrying
+pub mod Few
+pub mod Firsts
+pub mod Joining
+pub mod Lists
+pub mod Parts
+pub mod RestOfJob
+pub mod Rests

@@ -1,0 +1,4 @@
+pub mod Counting
+pub mod Jobs
+pub mod Joined
+pub mod Parts
