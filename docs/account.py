@@ -83,7 +83,7 @@ def parts(whole, alone):
     turn = whole["machine_runs::twin_machine::TwinMachineEngine::turn"]
     units = whole["twin_units::results::PlainUnitResultUnit::work"]
     latch = whole["operand_access::fetch::instruction"] + whole["psw_interrupts::events_due::due"]
-    line = whole["trace_text::lines::line"]
+    line = whole["trace_text::lines::put_line"]
     yield "a turn", whole[TOTAL]
     yield "the machine's turn", turn
     yield "- the fetch latch: what is due, and the instruction", latch
